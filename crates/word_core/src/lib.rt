@@ -3,6 +3,8 @@
 
 mod name;
 mod place;
+mod word;
 
 pub use name::Name;
 pub use place::Place;
+pub use word::Word;
