@@ -1,0 +1,248 @@
+-- The laws of the blocks of a certificate, and of the whole.
+use Rattle.std.proofs.Common.{◌≡◌, ℕ, ◌+◌, ◌≤◌, Bool, List, [], ◌∷◌, ◌++◌, length, map, Ok, refl, ap, ◌∙◌, arith, lit<, ◌⊎◌, decimal, codes}
+use Rattle.std.specs.List.{flat_map}
+use Rattle.std.proofs.lemmas.List.{append-nil}
+use Rattle.design_core.specs.declared.setup.Setup.{Setup}
+use Rattle.design_core.specs.declared.setup.Stimulus.{Stimulus}
+use Rattle.cert_text.specs.declared.cert.Body.{Body}
+use Rattle.cert_text.specs.declared.cert.Body.TheVariants.{Reached}
+use Rattle.cert_text.specs.declared.cert.CertClaim.{CertClaim}
+use Rattle.cert_text.specs.declared.cert.Cert.{Cert}
+use Rattle.line_text.specs.Lines.{Line, Source, words}
+use Rattle.line_text.specs.Reading.{Read, ◌>>=◌, line_by, times, until}
+use Rattle.line_text.specs.Tagged.{tagged, numbered_of, exact_of, alone_of}
+use Rattle.line_text.proofs.Laws.{IsLineOf, IsReaderOf, law_then, law_done, law_as, law_here, law_times, law_until, spell_from, FitFrom, spell_until, FitUntil}
+use Rattle.line_text.proofs.Words.{law_tagged, law_either, spell_either, FitEither, law_alone, word_from, exact_reader, number_reader}
+use Rattle.cert_text.specs.Points.{IsName}
+use Rattle.cert_text.specs.Spelling.{bits_word, setup_lines, body_lines, claim_lines, cert_lines, plain_setup, FitsSetup, FitsBody, FitClaims, FitsAt}
+use Rattle.cert_text.specs.Certs.{named_of, point_of, bits_line_of, in_or_end, setup_at, stimulus_at, body_at, claim_from, claim_at, cert_at}
+use Rattle.cert_text.proofs.Names.{named_reader}
+use Rattle.cert_text.proofs.PointLaws.{IsPointText, point_reader}
+use Rattle.cert_text.proofs.BitLaws.{law_bits, bits_reader}
+
+abbrev most : ℕ
+most = 9223372036854775807
+
+-- ---- the setup
+
+abbrev S5 : Setup → List Line
+S5 z = (tagged (codes "points") (codes "s") ∷ []) ++ []
+
+abbrev R5 : List ℕ → List ℕ → Source → Read Setup
+R5 top clock s = line_by (exact_of (codes "points") (codes "s")) s >>= λ points. Ok (plain_setup top clock, points.1)
+
+abbrev F5 : List ℕ → List ℕ → Setup → Type 0
+F5 top clock z = Unit {0} × (z ≡ plain_setup top clock)
+
+law5 : (top clock : List ℕ) → IsReaderOf S5 (λ _ z. F5 top clock z) (R5 top clock)
+law5 top clock = law_then (λ _. tagged (codes "points") (codes "s") ∷ []) (λ _ _. Unit {0}) (line_by (exact_of (codes "points") (codes "s"))) (λ _ _. []) (λ _ _ z. z ≡ plain_setup top clock) (λ _ s. Ok (plain_setup top clock, s)) (λ z. tt)
+    (exact_reader (codes "points") (codes "s") (word_from (codes "points") refl) (word_from (codes "s") refl)) (λ n x f. law_done (plain_setup top clock)) (λ x n z f. refl)
+
+abbrev S4 : Setup → List Line
+S4 z = (tagged (codes "cycles") (codes "0") ∷ []) ++ S5 z
+
+abbrev R4 : List ℕ → List ℕ → Source → Read Setup
+R4 top clock s = line_by (exact_of (codes "cycles") (codes "0")) s >>= λ cycles. R5 top clock cycles.1
+
+abbrev F4 : List ℕ → List ℕ → Setup → Type 0
+F4 top clock z = Unit {0} × F5 top clock z
+
+law4 : (top clock : List ℕ) → IsReaderOf S4 (λ _ z. F4 top clock z) (R4 top clock)
+law4 top clock = law_then (λ _. tagged (codes "cycles") (codes "0") ∷ []) (λ _ _. Unit {0}) (line_by (exact_of (codes "cycles") (codes "0"))) (λ _ z. S5 z) (λ _ _ z. F5 top clock z) (λ _ s. R5 top clock s) (λ z. tt)
+    (exact_reader (codes "cycles") (codes "0") (word_from (codes "cycles") refl) (word_from (codes "0") refl)) (λ n x f. law5 top clock) (λ x n z f. refl)
+
+abbrev S3 : Setup → List Line
+S3 z = (tagged (codes "clock") z.clock ∷ []) ++ S4 z
+
+abbrev F3 : List ℕ → Setup → Type 0
+F3 top z = IsName z.clock × F4 top z.clock z
+
+abbrev R3 : List ℕ → Source → Read Setup
+R3 top s = line_by (named_of (codes "clock")) s >>= λ clock. R4 top clock.0 clock.1
+
+law3 : (top : List ℕ) → IsReaderOf S3 (λ _ z. F3 top z) (R3 top)
+law3 top = law_then (λ x. tagged (codes "clock") x ∷ []) (λ _ x. IsName x) (line_by (named_of (codes "clock"))) (λ _ z. S4 z) (λ clock _ z. F4 top clock z) (λ clock s. R4 top clock s) (λ z. z.clock)
+    (named_reader (codes "clock") (word_from (codes "clock") refl)) (λ n clock f. law4 top clock) (λ clock n z f. ap (λ (y : Setup). y.clock) f.1.1)
+
+abbrev S2 : Setup → List Line
+S2 z = (tagged (codes "top") z.top ∷ []) ++ S3 z
+
+abbrev F2 : Setup → Type 0
+F2 z = IsName z.top × F3 z.top z
+
+abbrev R2 : Source → Read Setup
+R2 s = line_by (named_of (codes "top")) s >>= λ top. R3 top.0 top.1
+
+law2 : IsReaderOf S2 (λ _ z. F2 z) R2
+law2 = law_then (λ x. tagged (codes "top") x ∷ []) (λ _ x. IsName x) (line_by (named_of (codes "top"))) (λ _ z. S3 z) (λ top _ z. F3 top z) (λ top s. R3 top s) (λ z. z.top)
+    (named_reader (codes "top") (word_from (codes "top") refl)) (λ n top f. law3 top) (λ top n z f. ap (λ (y : Setup). y.top) f.1.1.1)
+
+setup_reader : IsReaderOf setup_lines (λ _ z. FitsSetup z) setup_at
+unfolding setup_at
+setup_reader = law_as (λ z. (tagged (codes "unr") (codes "1") ∷ []) ++ S2 z) setup_lines (λ _ z. Unit {0} × F2 z) (λ _ z. FitsSetup z) setup_at
+    (law_then (λ _. tagged (codes "unr") (codes "1") ∷ []) (λ _ _. Unit {0}) (line_by (exact_of (codes "unr") (codes "1"))) (λ _ z. S2 z) (λ _ _ z. F2 z) (λ _ s. R2 s) (λ z. tt)
+    (exact_reader (codes "unr") (codes "1") (word_from (codes "unr") refl) (word_from (codes "1") refl)) (λ n x f. law2) (λ x n z f. refl))
+    (λ n z f. refl)
+    (λ n z f. record { top = f.1.0; clock = f.1.1.0; plain = f.1.1.1.1.1 })
+    (λ n z f. (tt, (f.top, (f.clock, (tt, (tt, f.plain))))))
+
+-- ---- stimuli
+
+abbrev input_spell : List Bool ⊎ Unit {0} → Line
+input_spell = spell_either (λ b. tagged (codes "in") (bits_word b)) (λ _. codes "end" ∷ [])
+
+abbrev InputFits : List (List Bool) → List Bool ⊎ Unit {0} → Type 0
+InputFits seen = FitEither (λ _. Unit {0}) (λ _. Unit {0})
+
+input_line_law : (seen : List (List Bool)) → IsLineOf input_spell (InputFits seen) (in_or_end seen)
+unfolding in_or_end
+input_line_law seen = law_either (λ b. tagged (codes "in") (bits_word b)) (λ _. codes "end" ∷ []) (λ _. Unit {0}) (λ _. Unit {0}) (bits_line_of (codes "in")) (alone_of (codes "end"))
+    (law_tagged (codes "in") bits_word (λ _. Unit {0}) _ (word_from (codes "in") refl) law_bits) (law_alone (codes "end") (word_from (codes "end") refl)) (λ y. refl)
+
+inputs_reader : IsReaderOf (λ z. spell_until input_spell z.0 z.1) (λ _ z. FitUntil InputFits [] z.0 z.1) (until in_or_end)
+inputs_reader = law_until input_spell InputFits in_or_end input_line_law (λ seen. (tt, tt))
+
+inputs_fit : (bs seen : List (List Bool)) → FitUntil InputFits seen bs tt
+inputs_fit [] seen = tt
+inputs_fit (b ∷ bs) seen = (tt, inputs_fit bs (seen ++ b ∷ []))
+
+inputs_lines : (bs : List (List Bool)) → spell_until input_spell bs tt ++ [] ≡ map (λ b. tagged (codes "in") (bits_word b)) bs ++ (codes "end" ∷ []) ∷ []
+inputs_lines [] = refl
+inputs_lines (b ∷ bs) = ap (λ (ls : List Line). tagged (codes "in") (bits_word b) ∷ ls) (inputs_lines bs)
+
+abbrev make_stimulus : List Bool → List (List Bool) → Stimulus
+make_stimulus start inputs = record { start = start; lines = inputs }
+
+abbrev stimulus_lines : Stimulus → List Line
+stimulus_lines z = tagged (codes "start") (bits_word z.start) ∷ map (λ b. tagged (codes "in") (bits_word b)) z.lines ++ (codes "end" ∷ []) ∷ []
+
+abbrev T2 : Stimulus → List Line
+T2 z = spell_until input_spell z.lines tt ++ []
+
+abbrev G2 : List Bool → Stimulus → Type 0
+G2 start z = FitUntil InputFits [] z.lines tt × (z ≡ make_stimulus start z.lines)
+
+abbrev Q2 : List Bool → Source → Read Stimulus
+Q2 start s = until in_or_end s >>= λ inputs. Ok (make_stimulus start inputs.0.0, inputs.1)
+
+stimulus2 : (start : List Bool) → IsReaderOf T2 (λ _ z. G2 start z) (Q2 start)
+stimulus2 start = law_then (λ z. spell_until input_spell z.0 z.1) (λ _ z. FitUntil InputFits [] z.0 z.1) (until in_or_end) (λ _ _. []) (λ i _ z. z ≡ make_stimulus start i.0) (λ i s. Ok (make_stimulus start i.0, s)) (λ z. (z.lines, tt))
+    inputs_reader (λ n i f. law_done (make_stimulus start i.0)) (λ i n z f. ap (λ (y : Stimulus). (y.lines, tt)) f)
+
+stimulus_reader : IsReaderOf stimulus_lines (λ _ _. Unit {0}) stimulus_at
+unfolding stimulus_at
+stimulus_reader = law_as (λ z. (tagged (codes "start") (bits_word z.start) ∷ []) ++ T2 z) stimulus_lines (λ _ z. Unit {0} × G2 z.start z) (λ _ _. Unit {0}) stimulus_at
+    (law_then (λ b. tagged (codes "start") (bits_word b) ∷ []) (λ _ _. Unit {0}) (line_by (bits_line_of (codes "start"))) (λ _ z. T2 z) (λ start _ z. G2 start z) (λ start s. Q2 start s) (λ z. z.start)
+    (bits_reader (codes "start") (word_from (codes "start") refl)) (λ n start f. stimulus2 start) (λ start n z f. ap (λ (y : Stimulus). y.start) f.1))
+    (λ n z f. ap (λ (ls : List Line). tagged (codes "start") (bits_word z.start) ∷ ls) (inputs_lines z.lines))
+    (λ n z f. tt)
+    (λ n z f. (tt, (inputs_fit z.lines [], refl)))
+
+-- ---- bodies
+
+abbrev cycle_of : Body → ℕ
+cycle_of (Reached cycle stimulus) = cycle
+
+abbrev stimulus_of : Body → Stimulus
+stimulus_of (Reached cycle stimulus) = stimulus
+
+abbrev B2 : Body → List Line
+B2 z = stimulus_lines (stimulus_of z) ++ []
+
+abbrev H2 : ℕ → Body → Type 0
+H2 cycle z = Unit {0} × (z ≡ Reached cycle (stimulus_of z))
+
+body2 : (cycle : ℕ) → IsReaderOf B2 (λ _ z. H2 cycle z) (λ s. stimulus_at s >>= λ stimulus. Ok (Reached cycle stimulus.0, stimulus.1))
+body2 cycle = law_then stimulus_lines (λ _ _. Unit {0}) stimulus_at (λ _ _. []) (λ stimulus _ z. z ≡ Reached cycle stimulus) (λ stimulus s. Ok (Reached cycle stimulus, s)) stimulus_of
+    stimulus_reader (λ n stimulus f. law_done (Reached cycle stimulus)) (λ stimulus n z f. ap stimulus_of f)
+
+body_same : (z : Body) → (tagged (codes "reached") (decimal (cycle_of z)) ∷ []) ++ B2 z ≡ body_lines z
+body_same (Reached cycle stimulus) = ap (λ (ls : List Line). tagged (codes "reached") (decimal cycle) ∷ ls) (append-nil (stimulus_lines stimulus))
+
+body_to : (z : Body) → cycle_of z ≤ most → FitsBody z
+body_to (Reached cycle stimulus) le = omega (arith, le)
+
+body_back : (z : Body) → FitsBody z → (cycle_of z ≤ most) × H2 (cycle_of z) z
+body_back (Reached cycle stimulus) lt = (omega (arith, lt), (tt, refl))
+
+body_reader : IsReaderOf body_lines (λ _ z. FitsBody z) body_at
+unfolding body_at
+body_reader = law_as (λ z. (tagged (codes "reached") (decimal (cycle_of z)) ∷ []) ++ B2 z) body_lines (λ _ z. (cycle_of z ≤ most) × H2 (cycle_of z) z) (λ _ z. FitsBody z) body_at
+    (law_then (λ k. tagged (codes "reached") (decimal k) ∷ []) (λ _ k. k ≤ most) (line_by (numbered_of (codes "reached") most)) (λ _ z. B2 z) (λ cycle _ z. H2 cycle z) (λ cycle s. stimulus_at s >>= λ stimulus. Ok (Reached cycle stimulus.0, stimulus.1)) cycle_of
+    (number_reader (codes "reached") most (word_from (codes "reached") refl) (lit< tt)) (λ n cycle f. body2 cycle) (λ cycle n z f. ap cycle_of f.1))
+    (λ n z f. body_same z) (λ n z f. body_to z f.0) (λ n z f. body_back z f)
+
+-- ---- claims
+
+abbrev make_claim : ℕ → List ℕ → Body → CertClaim
+make_claim line point body = record { line = line; point = point; body = body }
+
+claim2 : (h : ℕ) (point : List ℕ) → IsReaderOf (λ z. body_lines z.body ++ []) (λ _ z. FitsBody z.body × (z ≡ make_claim h point z.body)) (λ s. body_at s >>= λ body. Ok (make_claim h point body.0, body.1))
+claim2 h point = law_then body_lines (λ _ z. FitsBody z) body_at (λ _ _. []) (λ body _ z. z ≡ make_claim h point body) (λ body s. Ok (make_claim h point body, s)) (λ z. z.body) body_reader (λ n body f. law_done (make_claim h point body)) (λ body n z f. ap (λ (y : CertClaim). y.body) f)
+
+abbrev FitsClaim : ℕ → CertClaim → Type 0
+FitsClaim n c = (c.line ≡ n) × IsPointText c.point × FitsBody c.body
+
+claim1 : (h : ℕ) → IsReaderOf claim_lines (λ _ c. FitsClaim h c) (claim_from h)
+unfolding claim_from
+claim1 h = law_as (λ z. (words z.point ∷ []) ++ (body_lines z.body ++ [])) claim_lines (λ _ z. IsPointText z.point × (FitsBody z.body × (z ≡ make_claim h z.point z.body))) (λ _ c. FitsClaim h c) (claim_from h)
+    (law_then (λ p. words p ∷ []) (λ _ p. IsPointText p) (line_by point_of) (λ _ z. body_lines z.body ++ []) (λ point _ z. FitsBody z.body × (z ≡ make_claim h point z.body)) (λ point s. body_at s >>= λ body. Ok (make_claim h point body.0, body.1)) (λ z. z.point)
+    point_reader (λ n point f. claim2 h point) (λ point n z f. ap (λ (y : CertClaim). y.point) f.1))
+    (λ n z f. ap (λ (ls : List Line). words z.point ∷ ls) (append-nil (body_lines z.body)))
+    (λ n z f. (ap (λ (y : CertClaim). y.line) f.1.1, f.0, f.1.0))
+    (λ n z f. (f.1, (f.2, ap (λ (l : ℕ). make_claim l z.point z.body) f.0)))
+
+claim_reader : IsReaderOf claim_lines FitsClaim claim_at
+unfolding claim_at
+claim_reader = law_here claim_lines (λ h _ c. FitsClaim h c) claim_from claim1
+
+claims_same : (i : ℕ) (cs : List CertClaim) → spell_from (λ _. claim_lines) i cs ≡ flat_map claim_lines cs
+claims_same i [] = refl
+claims_same i (c ∷ cs) = ap (λ (ls : List Line). claim_lines c ++ ls) (claims_same (i + 1) cs)
+
+claims_to : (i n : ℕ) (cs : List CertClaim) → FitFrom (λ _. claim_lines) (λ _. FitsClaim) i n cs → FitClaims n cs
+claims_to i n [] f = tt
+claims_to i n (c ∷ cs) f = (f.0, claims_to (i + 1) (n + length (claim_lines c)) cs f.1)
+
+claims_back : (i n : ℕ) (cs : List CertClaim) → FitClaims n cs → FitFrom (λ _. claim_lines) (λ _. FitsClaim) i n cs
+claims_back i n [] f = tt
+claims_back i n (c ∷ cs) f = (f.0, claims_back (i + 1) (n + length (claim_lines c)) cs f.1)
+
+-- ---- certificates
+
+abbrev claims_of : ℕ → Source → Read (List CertClaim)
+claims_of k = times k 0 (λ _. claim_at)
+
+abbrev ClaimsFit : ℕ → ℕ → List CertClaim → Type 0
+ClaimsFit k n cs = (length cs ≡ k) × FitFrom (λ _. claim_lines) (λ _. FitsClaim) 0 n cs
+
+claims_reader : (k : ℕ) → IsReaderOf (spell_from (λ _. claim_lines) 0) (ClaimsFit k) (claims_of k)
+claims_reader k = law_times (λ _. claim_lines) (λ _. FitsClaim) (λ _. claim_at) (λ _. claim_reader) k 0
+
+abbrev make_cert : Setup → List CertClaim → Cert
+make_cert setup claims = record { setup = setup; claims = claims }
+
+cert3 : (setup : Setup) (k : ℕ) → IsReaderOf (λ z. spell_from (λ _. claim_lines) 0 z.claims ++ []) (λ n z. ClaimsFit k n z.claims × (z ≡ make_cert setup z.claims)) (λ s. claims_of k s >>= λ cs. Ok (make_cert setup cs.0, cs.1))
+cert3 setup k = law_then (spell_from (λ _. claim_lines) 0) (ClaimsFit k) (claims_of k) (λ _ _. []) (λ cs _ z. z ≡ make_cert setup cs) (λ cs s. Ok (make_cert setup cs, s)) (λ z. z.claims) (claims_reader k) (λ n cs f. law_done (make_cert setup cs)) (λ cs n z f. ap (λ (y : Cert). y.claims) f)
+
+abbrev CertFits2 : Setup → ℕ → Cert → Type 0
+CertFits2 setup n z = (length z.claims ≤ most) × (ClaimsFit (length z.claims) (n + 1) z.claims × (z ≡ make_cert setup z.claims))
+
+cert2 : (setup : Setup) → IsReaderOf (λ z. (tagged (codes "claims") (decimal (length z.claims)) ∷ []) ++ (spell_from (λ _. claim_lines) 0 z.claims ++ [])) (CertFits2 setup) (λ s. line_by (numbered_of (codes "claims") most) s >>= λ count. claims_of count.0 count.1 >>= λ cs. Ok (make_cert setup cs.0, cs.1))
+cert2 setup = law_then (λ n. tagged (codes "claims") (decimal n) ∷ []) (λ _ n. n ≤ most) (line_by (numbered_of (codes "claims") most)) (λ _ z. spell_from (λ _. claim_lines) 0 z.claims ++ []) (λ k n z. ClaimsFit k n z.claims × (z ≡ make_cert setup z.claims)) (λ k s. claims_of k s >>= λ cs. Ok (make_cert setup cs.0, cs.1)) (λ z. length z.claims)
+    (number_reader (codes "claims") most (word_from (codes "claims") refl) (lit< tt)) (λ n k f. cert3 setup k) (λ k n z f. f.0.0)
+
+cert_to : (n : ℕ) (z : Cert) → FitsSetup z.setup → CertFits2 z.setup (n + length (setup_lines z.setup)) z → FitsAt n z
+cert_to n z s f = record { setup = s; count = omega (arith, f.0); claims = claims_to 0 (n + length (setup_lines z.setup) + 1) z.claims f.1.0.1 }
+
+cert_back : (n : ℕ) (z : Cert) → FitsAt n z → FitsSetup z.setup × CertFits2 z.setup (n + length (setup_lines z.setup)) z
+cert_back n z f = (f.setup, (omega (arith, f.count), ((refl, claims_back 0 (n + length (setup_lines z.setup) + 1) z.claims f.claims), refl)))
+
+pub cert_reader : IsReaderOf cert_lines FitsAt cert_at
+unfolding cert_at
+cert_reader = law_as (λ z. setup_lines z.setup ++ ((tagged (codes "claims") (decimal (length z.claims)) ∷ []) ++ (spell_from (λ _. claim_lines) 0 z.claims ++ []))) cert_lines
+    (λ n z. FitsSetup z.setup × CertFits2 z.setup (n + length (setup_lines z.setup)) z) FitsAt cert_at
+    (law_then setup_lines (λ _ s. FitsSetup s) setup_at (λ _ z. (tagged (codes "claims") (decimal (length z.claims)) ∷ []) ++ (spell_from (λ _. claim_lines) 0 z.claims ++ [])) CertFits2 (λ setup s. line_by (numbered_of (codes "claims") most) s >>= λ count. claims_of count.0 count.1 >>= λ cs. Ok (make_cert setup cs.0, cs.1)) (λ z. z.setup)
+    setup_reader (λ n setup f. cert2 setup) (λ setup n z f. ap (λ (y : Cert). y.setup) f.1.1))
+    (λ n z f. ap (λ (ls : List Line). setup_lines z.setup ++ tagged (codes "claims") (decimal (length z.claims)) ∷ ls) (append-nil (spell_from (λ _. claim_lines) 0 z.claims) ∙ claims_same 0 z.claims))
+    (λ n z f. cert_to n z f.0 f.1) (λ n z f. cert_back n z f)

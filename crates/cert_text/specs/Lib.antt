@@ -1,0 +1,5 @@
+pub mod Points
+pub mod Spelling
+pub mod Tests
+pub mod Certs
+pub mod Answers

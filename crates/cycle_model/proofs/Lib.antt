@@ -1,0 +1,7 @@
+pub mod Values
+pub mod Writing
+pub mod Blocks
+pub mod Steps
+pub mod Sites
+pub mod Whole
+pub mod Hits

@@ -1,0 +1,4 @@
+pub mod Flags
+pub mod Clocking
+pub mod Machine
+pub mod Replay

@@ -1,0 +1,9 @@
+pub mod Truth
+pub mod Equations
+pub mod Effects
+pub mod Updates
+pub mod ResetLaws
+pub mod Settling
+pub mod OneSettling
+pub mod RunLaws
+pub mod ClockedDesigns

@@ -1,0 +1,10 @@
+pub mod Exec
+pub mod Drive
+pub mod Bounds
+pub mod Settled
+pub mod Resets
+pub mod Legality
+pub mod Runs
+pub mod Verdicts
+pub mod Ordered
+pub mod Alike

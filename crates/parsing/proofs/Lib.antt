@@ -1,0 +1,9 @@
+pub mod Laws
+pub mod Words
+pub mod Facts
+pub mod Exact
+pub mod Rules
+pub mod RuleLaw
+pub mod Scanning
+pub mod Knot
+pub mod Counting
