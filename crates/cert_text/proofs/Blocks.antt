@@ -25,63 +25,63 @@ most = 9223372036854775807
 
 -- ---- the setup
 
-abbrev S5 : Setup → List Line
-S5 z = (tagged (codes "points") (codes "s") ∷ []) ++ []
+abbrev spell_from_5 : Setup → List Line
+spell_from_5 z = (tagged (codes "points") (codes "s") ∷ []) ++ []
 
-abbrev R5 : List ℕ → List ℕ → Source → Read Setup
-R5 top clock s = line_by (exact_of (codes "points") (codes "s")) s >>= λ points. Ok (plain_setup top clock, points.1)
+abbrev read_from_5 : List ℕ → List ℕ → Source → Read Setup
+read_from_5 top clock s = line_by (exact_of (codes "points") (codes "s")) s >>= λ points. Ok (plain_setup top clock, points.1)
 
-abbrev F5 : List ℕ → List ℕ → Setup → Type 0
-F5 top clock z = Unit {0} × (z ≡ plain_setup top clock)
+abbrev fits_from_5 : List ℕ → List ℕ → Setup → Type 0
+fits_from_5 top clock z = Unit {0} × (z ≡ plain_setup top clock)
 
-law5 : (top clock : List ℕ) → IsReaderOf S5 (λ _ z. F5 top clock z) (R5 top clock)
-law5 top clock = law_then (λ _. tagged (codes "points") (codes "s") ∷ []) (λ _ _. Unit {0}) (line_by (exact_of (codes "points") (codes "s"))) (λ _ _. []) (λ _ _ z. z ≡ plain_setup top clock) (λ _ s. Ok (plain_setup top clock, s)) (λ z. tt)
+law_from_5 : (top clock : List ℕ) → IsReaderOf spell_from_5 (λ _ z. fits_from_5 top clock z) (read_from_5 top clock)
+law_from_5 top clock = law_then (λ _. tagged (codes "points") (codes "s") ∷ []) (λ _ _. Unit {0}) (line_by (exact_of (codes "points") (codes "s"))) (λ _ _. []) (λ _ _ z. z ≡ plain_setup top clock) (λ _ s. Ok (plain_setup top clock, s)) (λ z. tt)
     (exact_reader (codes "points") (codes "s") (word_from (codes "points") refl) (word_from (codes "s") refl)) (λ n x f. law_done (plain_setup top clock)) (λ x n z f. refl)
 
-abbrev S4 : Setup → List Line
-S4 z = (tagged (codes "cycles") (codes "0") ∷ []) ++ S5 z
+abbrev spell_from_4 : Setup → List Line
+spell_from_4 z = (tagged (codes "cycles") (codes "0") ∷ []) ++ spell_from_5 z
 
-abbrev R4 : List ℕ → List ℕ → Source → Read Setup
-R4 top clock s = line_by (exact_of (codes "cycles") (codes "0")) s >>= λ cycles. R5 top clock cycles.1
+abbrev read_from_4 : List ℕ → List ℕ → Source → Read Setup
+read_from_4 top clock s = line_by (exact_of (codes "cycles") (codes "0")) s >>= λ cycles. read_from_5 top clock cycles.1
 
-abbrev F4 : List ℕ → List ℕ → Setup → Type 0
-F4 top clock z = Unit {0} × F5 top clock z
+abbrev fits_from_4 : List ℕ → List ℕ → Setup → Type 0
+fits_from_4 top clock z = Unit {0} × fits_from_5 top clock z
 
-law4 : (top clock : List ℕ) → IsReaderOf S4 (λ _ z. F4 top clock z) (R4 top clock)
-law4 top clock = law_then (λ _. tagged (codes "cycles") (codes "0") ∷ []) (λ _ _. Unit {0}) (line_by (exact_of (codes "cycles") (codes "0"))) (λ _ z. S5 z) (λ _ _ z. F5 top clock z) (λ _ s. R5 top clock s) (λ z. tt)
-    (exact_reader (codes "cycles") (codes "0") (word_from (codes "cycles") refl) (word_from (codes "0") refl)) (λ n x f. law5 top clock) (λ x n z f. refl)
+law_from_4 : (top clock : List ℕ) → IsReaderOf spell_from_4 (λ _ z. fits_from_4 top clock z) (read_from_4 top clock)
+law_from_4 top clock = law_then (λ _. tagged (codes "cycles") (codes "0") ∷ []) (λ _ _. Unit {0}) (line_by (exact_of (codes "cycles") (codes "0"))) (λ _ z. spell_from_5 z) (λ _ _ z. fits_from_5 top clock z) (λ _ s. read_from_5 top clock s) (λ z. tt)
+    (exact_reader (codes "cycles") (codes "0") (word_from (codes "cycles") refl) (word_from (codes "0") refl)) (λ n x f. law_from_5 top clock) (λ x n z f. refl)
 
-abbrev S3 : Setup → List Line
-S3 z = (tagged (codes "clock") z.clock ∷ []) ++ S4 z
+abbrev spell_from_3 : Setup → List Line
+spell_from_3 z = (tagged (codes "clock") z.clock ∷ []) ++ spell_from_4 z
 
-abbrev F3 : List ℕ → Setup → Type 0
-F3 top z = IsName z.clock × F4 top z.clock z
+abbrev fits_from_3 : List ℕ → Setup → Type 0
+fits_from_3 top z = IsName z.clock × fits_from_4 top z.clock z
 
-abbrev R3 : List ℕ → Source → Read Setup
-R3 top s = line_by (named_of (codes "clock")) s >>= λ clock. R4 top clock.0 clock.1
+abbrev read_from_3 : List ℕ → Source → Read Setup
+read_from_3 top s = line_by (named_of (codes "clock")) s >>= λ clock. read_from_4 top clock.0 clock.1
 
-law3 : (top : List ℕ) → IsReaderOf S3 (λ _ z. F3 top z) (R3 top)
-law3 top = law_then (λ x. tagged (codes "clock") x ∷ []) (λ _ x. IsName x) (line_by (named_of (codes "clock"))) (λ _ z. S4 z) (λ clock _ z. F4 top clock z) (λ clock s. R4 top clock s) (λ z. z.clock)
-    (named_reader (codes "clock") (word_from (codes "clock") refl)) (λ n clock f. law4 top clock) (λ clock n z f. ap (λ (y : Setup). y.clock) f.1.1)
+law_from_3 : (top : List ℕ) → IsReaderOf spell_from_3 (λ _ z. fits_from_3 top z) (read_from_3 top)
+law_from_3 top = law_then (λ x. tagged (codes "clock") x ∷ []) (λ _ x. IsName x) (line_by (named_of (codes "clock"))) (λ _ z. spell_from_4 z) (λ clock _ z. fits_from_4 top clock z) (λ clock s. read_from_4 top clock s) (λ z. z.clock)
+    (named_reader (codes "clock") (word_from (codes "clock") refl)) (λ n clock f. law_from_4 top clock) (λ clock n z f. ap (λ (y : Setup). y.clock) f.1.1)
 
-abbrev S2 : Setup → List Line
-S2 z = (tagged (codes "top") z.top ∷ []) ++ S3 z
+abbrev spell_from_2 : Setup → List Line
+spell_from_2 z = (tagged (codes "top") z.top ∷ []) ++ spell_from_3 z
 
-abbrev F2 : Setup → Type 0
-F2 z = IsName z.top × F3 z.top z
+abbrev fits_from_2 : Setup → Type 0
+fits_from_2 z = IsName z.top × fits_from_3 z.top z
 
-abbrev R2 : Source → Read Setup
-R2 s = line_by (named_of (codes "top")) s >>= λ top. R3 top.0 top.1
+abbrev read_from_2 : Source → Read Setup
+read_from_2 s = line_by (named_of (codes "top")) s >>= λ top. read_from_3 top.0 top.1
 
-law2 : IsReaderOf S2 (λ _ z. F2 z) R2
-law2 = law_then (λ x. tagged (codes "top") x ∷ []) (λ _ x. IsName x) (line_by (named_of (codes "top"))) (λ _ z. S3 z) (λ top _ z. F3 top z) (λ top s. R3 top s) (λ z. z.top)
-    (named_reader (codes "top") (word_from (codes "top") refl)) (λ n top f. law3 top) (λ top n z f. ap (λ (y : Setup). y.top) f.1.1.1)
+law_from_2 : IsReaderOf spell_from_2 (λ _ z. fits_from_2 z) read_from_2
+law_from_2 = law_then (λ x. tagged (codes "top") x ∷ []) (λ _ x. IsName x) (line_by (named_of (codes "top"))) (λ _ z. spell_from_3 z) (λ top _ z. fits_from_3 top z) (λ top s. read_from_3 top s) (λ z. z.top)
+    (named_reader (codes "top") (word_from (codes "top") refl)) (λ n top f. law_from_3 top) (λ top n z f. ap (λ (y : Setup). y.top) f.1.1.1)
 
 setup_reader : IsReaderOf setup_lines (λ _ z. FitsSetup z) setup_at
 unfolding setup_at
-setup_reader = law_as (λ z. (tagged (codes "unr") (codes "1") ∷ []) ++ S2 z) setup_lines (λ _ z. Unit {0} × F2 z) (λ _ z. FitsSetup z) setup_at
-    (law_then (λ _. tagged (codes "unr") (codes "1") ∷ []) (λ _ _. Unit {0}) (line_by (exact_of (codes "unr") (codes "1"))) (λ _ z. S2 z) (λ _ _ z. F2 z) (λ _ s. R2 s) (λ z. tt)
-    (exact_reader (codes "unr") (codes "1") (word_from (codes "unr") refl) (word_from (codes "1") refl)) (λ n x f. law2) (λ x n z f. refl))
+setup_reader = law_as (λ z. (tagged (codes "unr") (codes "1") ∷ []) ++ spell_from_2 z) setup_lines (λ _ z. Unit {0} × fits_from_2 z) (λ _ z. FitsSetup z) setup_at
+    (law_then (λ _. tagged (codes "unr") (codes "1") ∷ []) (λ _ _. Unit {0}) (line_by (exact_of (codes "unr") (codes "1"))) (λ _ z. spell_from_2 z) (λ _ _ z. fits_from_2 z) (λ _ s. read_from_2 s) (λ z. tt)
+    (exact_reader (codes "unr") (codes "1") (word_from (codes "unr") refl) (word_from (codes "1") refl)) (λ n x f. law_from_2) (λ x n z f. refl))
     (λ n z f. refl)
     (λ n z f. record { top = f.1.0; clock = f.1.1.0; plain = f.1.1.1.1.1 })
     (λ n z f. (tt, (f.top, (f.clock, (tt, (tt, f.plain))))))
@@ -116,24 +116,24 @@ make_stimulus start inputs = record { start = start; lines = inputs }
 abbrev stimulus_lines : Stimulus → List Line
 stimulus_lines z = tagged (codes "start") (bits_word z.start) ∷ map (λ b. tagged (codes "in") (bits_word b)) z.lines ++ (codes "end" ∷ []) ∷ []
 
-abbrev T2 : Stimulus → List Line
-T2 z = spell_until input_spell z.lines tt ++ []
+abbrev spell_inputs : Stimulus → List Line
+spell_inputs z = spell_until input_spell z.lines tt ++ []
 
-abbrev G2 : List Bool → Stimulus → Type 0
-G2 start z = FitUntil InputFits [] z.lines tt × (z ≡ make_stimulus start z.lines)
+abbrev fits_inputs : List Bool → Stimulus → Type 0
+fits_inputs start z = FitUntil InputFits [] z.lines tt × (z ≡ make_stimulus start z.lines)
 
-abbrev Q2 : List Bool → Source → Read Stimulus
-Q2 start s = until in_or_end s >>= λ inputs. Ok (make_stimulus start inputs.0.0, inputs.1)
+abbrev read_inputs : List Bool → Source → Read Stimulus
+read_inputs start s = until in_or_end s >>= λ inputs. Ok (make_stimulus start inputs.0.0, inputs.1)
 
-stimulus2 : (start : List Bool) → IsReaderOf T2 (λ _ z. G2 start z) (Q2 start)
-stimulus2 start = law_then (λ z. spell_until input_spell z.0 z.1) (λ _ z. FitUntil InputFits [] z.0 z.1) (until in_or_end) (λ _ _. []) (λ i _ z. z ≡ make_stimulus start i.0) (λ i s. Ok (make_stimulus start i.0, s)) (λ z. (z.lines, tt))
+rest_reader : (start : List Bool) → IsReaderOf spell_inputs (λ _ z. fits_inputs start z) (read_inputs start)
+rest_reader start = law_then (λ z. spell_until input_spell z.0 z.1) (λ _ z. FitUntil InputFits [] z.0 z.1) (until in_or_end) (λ _ _. []) (λ i _ z. z ≡ make_stimulus start i.0) (λ i s. Ok (make_stimulus start i.0, s)) (λ z. (z.lines, tt))
     inputs_reader (λ n i f. law_done (make_stimulus start i.0)) (λ i n z f. ap (λ (y : Stimulus). (y.lines, tt)) f)
 
 stimulus_reader : IsReaderOf stimulus_lines (λ _ _. Unit {0}) stimulus_at
 unfolding stimulus_at
-stimulus_reader = law_as (λ z. (tagged (codes "start") (bits_word z.start) ∷ []) ++ T2 z) stimulus_lines (λ _ z. Unit {0} × G2 z.start z) (λ _ _. Unit {0}) stimulus_at
-    (law_then (λ b. tagged (codes "start") (bits_word b) ∷ []) (λ _ _. Unit {0}) (line_by (bits_line_of (codes "start"))) (λ _ z. T2 z) (λ start _ z. G2 start z) (λ start s. Q2 start s) (λ z. z.start)
-    (bits_reader (codes "start") (word_from (codes "start") refl)) (λ n start f. stimulus2 start) (λ start n z f. ap (λ (y : Stimulus). y.start) f.1))
+stimulus_reader = law_as (λ z. (tagged (codes "start") (bits_word z.start) ∷ []) ++ spell_inputs z) stimulus_lines (λ _ z. Unit {0} × fits_inputs z.start z) (λ _ _. Unit {0}) stimulus_at
+    (law_then (λ b. tagged (codes "start") (bits_word b) ∷ []) (λ _ _. Unit {0}) (line_by (bits_line_of (codes "start"))) (λ _ z. spell_inputs z) (λ start _ z. fits_inputs start z) (λ start s. read_inputs start s) (λ z. z.start)
+    (bits_reader (codes "start") (word_from (codes "start") refl)) (λ n start f. rest_reader start) (λ start n z f. ap (λ (y : Stimulus). y.start) f.1))
     (λ n z f. ap (λ (ls : List Line). tagged (codes "start") (bits_word z.start) ∷ ls) (inputs_lines z.lines))
     (λ n z f. tt)
     (λ n z f. (tt, (inputs_fit z.lines [], refl)))
