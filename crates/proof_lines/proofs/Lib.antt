@@ -1,0 +1,5 @@
+mod Front
+mod Leftover
+mod LineLaws
+mod Spaces
+mod TextLaws

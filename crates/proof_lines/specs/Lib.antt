@@ -1,0 +1,9 @@
+pub mod Answers
+pub mod Kept
+pub mod Read
+pub mod Reading
+pub mod Sinks
+pub mod Spaced
+pub mod Spelling
+pub mod TextSinks
+pub mod Texts

@@ -1,0 +1,99 @@
+// Why a text has no design, and why a certificate isn't accepted.
+
+use crate::flatten::FlatError;
+use cert_text::CertError;
+use std::alloc::AllocError;
+use vlog_items::TextError;
+use word_core::{Name, Place};
+
+/// Why a text has no design under a setup.
+#[derive(Debug, Drop)]
+pub enum SourceError {
+    /// It has no tree.
+    Text(TextError),
+    /// Its tree has no design so far. The place is that of the text's first token.
+    NotBuilt { at: Place },
+    /// Memory ran out.
+    Memory,
+}
+
+impl From<AllocError> for SourceError {
+    ghost use Rattle.std.specs.Prelude.{◌≡◌};
+    ghost use Rattle.source_check.specs.declared.error.SourceError.TheVariants.{Memory};
+
+    ghost from_gives = { λ _ e. e ≡ Memory };
+
+    fn from(_: AllocError) -> SourceError {
+        SourceError::Memory
+    }
+}
+
+/// Why a certificate isn't accepted for a text.
+#[derive(Debug, Drop)]
+pub enum CheckError {
+    /// The text has no design.
+    Source(SourceError),
+    /// The certificate can't be read.
+    Cert(CertError),
+    /// The claim that begins at this line, counted from 1, isn't for the next point of the list.
+    WrongPoint { line: u64 },
+    /// No claim is for this point, the next one of the list.
+    Missing { point: Name },
+    /// The claim for this point says of its stimulus what isn't so.
+    NotHit { point: Name },
+    /// Memory ran out.
+    Memory,
+}
+
+impl From<AllocError> for CheckError {
+    ghost use Rattle.std.specs.Prelude.{◌≡◌};
+    ghost use Rattle.source_check.specs.declared.error.CheckError.TheVariants.{Memory};
+
+    ghost from_gives = { λ _ e. e ≡ Memory };
+
+    fn from(_: AllocError) -> CheckError {
+        CheckError::Memory
+    }
+}
+
+impl From<FlatError> for SourceError {
+    ghost use Rattle.std.specs.Prelude.{◌≡◌};
+    ghost use Rattle.source_check.specs.Faults.{flat_fault};
+
+    ghost from_gives = { λ f e. e ≡ flat_fault f };
+
+    fn from(fault: FlatError) -> SourceError {
+        match fault {
+            FlatError::NotBuilt { at } => SourceError::NotBuilt { at },
+            FlatError::Memory => SourceError::Memory,
+        }
+    }
+}
+
+impl From<SourceError> for CheckError {
+    ghost use Rattle.std.specs.Prelude.{◌≡◌};
+    ghost use Rattle.source_check.specs.Faults.{source_fault};
+
+    ghost from_gives = { λ f e. e ≡ source_fault f };
+
+    fn from(fault: SourceError) -> CheckError {
+        match fault {
+            SourceError::Memory => CheckError::Memory,
+            fault => CheckError::Source(fault),
+        }
+    }
+}
+
+impl From<CertError> for CheckError {
+    ghost use Rattle.std.specs.Prelude.{◌≡◌};
+    ghost use Rattle.source_check.specs.Faults.{cert_fault};
+
+    ghost from_gives = { λ f e. e ≡ cert_fault f };
+
+    fn from(fault: CertError) -> CheckError {
+        match fault {
+            CertError::Memory => CheckError::Memory,
+            fault => CheckError::Cert(fault),
+        }
+    }
+}

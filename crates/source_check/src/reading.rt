@@ -1,0 +1,20 @@
+// The tree of a text, with want of memory as one answer.
+
+ghost use Rattle.source_check.specs.Checking.{ReadsText};
+
+use crate::error::SourceError;
+use std::alloc::Global;
+use vlog_items::{ParseError, TextError, parse};
+use vlog_tree::Tree;
+
+/// The tree of a text.
+pub fn tree_of(alloc: Global, text: &[u8]) -> Result<Tree, SourceError>
+    ensures { ReadsText text.now result }
+{
+    match parse(alloc, text) {
+        Ok(tree) => Ok(tree),
+        Err(TextError::Memory) => Err(SourceError::Memory),
+        Err(TextError::Parse(ParseError::Memory)) => Err(SourceError::Memory),
+        Err(error) => Err(SourceError::Text(error)),
+    }
+}

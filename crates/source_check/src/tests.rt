@@ -1,0 +1,45 @@
+use crate::{CheckError, SourceError, check, front, judge};
+use cert_text::read_cert;
+use std::test::Fail;
+use vlog_items::parse;
+
+const TEXT: &[u8] =
+    b"module t(input clk, input a, output reg q); always @(posedge clk) q <= a; endmodule";
+
+const CERT: &[u8] =
+    b"unr 1\ntop t\nclock clk\ncycles 0\npoints s\nclaims 1\nS t #1\nreached 0\nstart 0\nin 0\nend\n";
+
+// The stimulus has one line too few for cycle 1.
+const LATE: &[u8] =
+    b"unr 1\ntop t\nclock clk\ncycles 0\npoints s\nclaims 1\nS t #1\nreached 1\nstart 0\nin 0\nend\n";
+
+const NOT_BUILT: [&[u8]; 4] = [
+    b"module u(input clk, input a, output reg q); always @(posedge clk) q <= a; endmodule",
+    b"module t(input clk, input clk, output reg q); always @(posedge clk) q <= clk; endmodule",
+    b"module t(input clk, input a, output reg q); always @(posedge clk) q <= clk; endmodule",
+    b"module t(input clk, input a, output reg q); endmodule",
+];
+
+#[test]
+fn checks(rt: HostRuntime) -> Result<(), Fail> {
+    let alloc = rt.alloc();
+    assert_eq!(rt; check(alloc, TEXT, CERT)?.len(), 1);
+    assert!(rt; matches!(check(alloc, TEXT, LATE), Err(CheckError::NotHit { .. })));
+    for text in NOT_BUILT {
+        let found = check(alloc, text, CERT);
+        assert!(rt; matches!(found, Err(CheckError::Source(SourceError::NotBuilt { .. }))));
+    }
+    Ok(())
+}
+
+#[test]
+fn judges(rt: HostRuntime) -> Result<(), Fail> {
+    let alloc = rt.alloc();
+    let tree = parse(alloc, TEXT)?;
+    let cert = read_cert(alloc, CERT)?;
+    assert_eq!(rt; judge(alloc, &tree, &cert)?.len(), 1);
+    let front = front(alloc, TEXT, &cert.setup)?;
+    assert_eq!(rt; front.points.len(), 1);
+    assert_eq!(rt; front.legal.design().registers.as_slice(), [2].as_slice());
+    Ok(())
+}

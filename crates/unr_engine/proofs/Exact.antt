@@ -1,0 +1,210 @@
+-- The bytes of the files deserve one status.
+use Rattle.std.proofs.Common.{◌≡◌, ◌⊎◌, ℕ, ◌-◌, ◌^◌, List, [], ◌∷◌, take, Some, Result, Ok, Err, refl, ap, ◌∙◌, sym, subst, inl, inr, arith}
+use Rattle.unr_io.specs.Desk.{DeskState, Told, Rose}
+use Rattle.unr_io.specs.Sink.{SinkState}
+use Rattle.vlog_tree.specs.declared.Tree.{Tree}
+use Rattle.vlog_tree.specs.declared.Module.{Module}
+use Rattle.design_core.specs.declared.flat.Design.{Design}
+use Rattle.design_core.specs.declared.setup.Setup.{Setup}
+use Rattle.vlog_items.specs.declared.error.TextError.{TextError}
+use Rattle.vlog_items.specs.declared.error.TextError.TheVariants as text_error
+use Rattle.vlog_items.specs.declared.error.ParseError.TheVariants as parse_error
+use Rattle.vlog_items.specs.Answers.{TextAnswers}
+use Rattle.vlog_items.proofs.Once.{one_tree, not_both}
+use Rattle.cert_text.specs.declared.cert.Cert.{Cert}
+use Rattle.cert_text.specs.declared.cert.CertClaim.{CertClaim}
+use Rattle.cert_text.specs.declared.error.CertError.{CertError}
+use Rattle.cert_text.specs.declared.error.CertError.TheVariants as cert_error
+use Rattle.cert_text.specs.declared.claim.Claim.{Claim}
+use Rattle.cert_text.specs.Spelling.{IsFirstBad}
+use Rattle.cert_text.specs.Answers.{CertAnswers}
+use Rattle.cert_text.proofs.Whole.{one_certificate, good_or_bad}
+use Rattle.source_check.specs.declared.error.SourceError.TheVariants as source_error
+use Rattle.source_check.specs.declared.error.CheckError.{CheckError}
+use Rattle.source_check.specs.declared.error.CheckError.TheVariants as check_error
+use Rattle.source_check.specs.declared.points.Point.{Point}
+use Rattle.source_check.specs.Flat.{IsDesignOf, design_of}
+use Rattle.source_check.specs.Built.{IsBuilt}
+use Rattle.source_check.specs.Checking.{ReadAndJudged}
+use Rattle.source_check.specs.Judging.{Judges, Accepted, FirstFault, Fails}
+use Rattle.source_check.specs.Points.{points_of}
+use Rattle.unr_engine.specs.Statuses.{text_status, cert_status, check_status, refusal_status, status_of}
+use Rattle.unr_engine.specs.declared.TheConstants.{SOURCE_MOST}
+use Rattle.unr_engine.specs.declared.stop.Refusal.{Refusal}
+use Rattle.unr_engine.specs.declared.stop.Refusal.TheVariants as refusal
+use Rattle.unr_engine.specs.Words.{Check_files, Names}
+use Rattle.unr_engine.specs.Ends.{End, Done, Stopped, Not_words, Fault_at, Fault_of_output, Out_of_memory, Not_taken}
+use Rattle.unr_engine.specs.Content.{CheckRefuses, Answers}
+use Rattle.unr_engine.specs.Outcome.{IsFrontOfFile, AreLoaded, loads_of, Ran, Outcome}
+use Rattle.unr_engine.specs.Promises.{AreTold, HaveBytes, judged_status, Deserve, Agree}
+use Rattle.unr_engine.proofs.Checks.{text_so, both_so, nothing_so}
+use Rattle.unr_engine.proofs.Kept.{told_of, ran_of}
+
+-- a text that has a tree is refused for want of memory alone
+text_or_none : (text : List ℕ) (tree : Tree) (error : TextError) → TextAnswers text (Ok tree) → TextAnswers text (Err error) → text_status error ≡ 7
+text_or_none text tree (text_error.TooLong count) a b = absurd (omega (arith, a.0, b.0))
+text_or_none text tree (text_error.Parse (parse_error.Expected place what)) a b = absurd (not_both text tree place what a b)
+text_or_none text tree (text_error.Parse parse_error.Memory) a b = refl
+text_or_none text tree text_error.Memory a b = refl
+
+-- and so is a certificate
+cert_or_none : (text : List ℕ) (cert : Cert) (error : CertError) → CertAnswers text (Ok cert) → CertAnswers text (Err error) → cert_status error ≡ 7
+cert_or_none text cert (cert_error.BadCert line) a b = absurd (good_or_bad cert line a.0 (let P : List ℕ → Type 0 = λ bytes. IsFirstBad bytes line in subst P a.1 b))
+cert_or_none text cert cert_error.Memory a b = refl
+
+one_cert : (text : List ℕ) (cert other : Cert) → CertAnswers text (Ok cert) → CertAnswers text (Ok other) → cert ≡ other
+one_cert text cert other a b = one_certificate cert other a.0 b.0 (sym a.1 ∙ b.1)
+
+-- a text has one design
+one_design : (tree : Tree) (setup : Setup) (d e : Design) → IsDesignOf tree setup d → IsDesignOf tree setup e → d ≡ e
+one_design tree setup d e a b =
+    let same : a.0 ≡ b.0 = (let k : a.0 ∷ [] ≡ b.0 ∷ [] = sym a.1 ∙ b.1 in cc) in
+    a.3 ∙ (ap (λ (m : Module). design_of m setup) same ∙ sym b.3)
+
+-- claims that are accepted have no fault
+no_fault : (d : Design) (setup : Setup) (points : List Point) (claims : List CertClaim) (fault : CheckError) → Accepted d setup points claims → FirstFault d setup points claims fault → ⊥
+no_fault d setup [] [] fault a f = f
+no_fault d setup [] (c ∷ cs) fault a f = a
+no_fault d setup (p ∷ ps) [] fault a f = a
+no_fault d setup (p ∷ ps) (c ∷ cs) fault a f =
+    elim f [
+      | inl other ↦ other.0 a.0
+      | inr more ↦ elim more [
+        | inl untrue ↦ untrue.1 a.1
+        | inr later ↦ no_fault d setup ps cs fault a.2 later.2
+      ]
+    ]
+
+accepted_or_fails : (tree : Tree) (cert : Cert) (claims : List Claim) (fault : CheckError) → Judges tree cert (Ok claims) → Fails tree cert fault → ⊥
+accepted_or_fails tree cert claims fault a f =
+    let same = one_design tree cert.setup f.0 a.0 f.1 a.1 in
+    no_fault a.0 cert.setup (points_of a.0 cert.setup) cert.claims fault a.2 (let P : Design → Type 0 = λ d. FirstFault d cert.setup (points_of d cert.setup) cert.claims fault in subst P same f.2)
+
+built : (tree : Tree) (setup : Setup) (d : Design) → IsDesignOf tree setup d → IsBuilt tree setup
+built tree setup d a = (a.0, a.1, a.2)
+
+accepted_or_none : (tree : Tree) (cert : Cert) (claims : List Claim) (error : CheckError) → Judges tree cert (Ok claims) → Judges tree cert (Err error) → check_status error ≡ 7
+accepted_or_none tree cert claims (check_error.Source (source_error.Text error)) a b = absurd b
+accepted_or_none tree cert claims (check_error.Source (source_error.NotBuilt place)) a b = absurd (b.0 (built tree cert.setup a.0 a.1))
+accepted_or_none tree cert claims (check_error.Source source_error.Memory) a b = absurd b
+accepted_or_none tree cert claims (check_error.Cert error) a b = absurd b
+accepted_or_none tree cert claims (check_error.WrongPoint line) a b = absurd (accepted_or_fails tree cert claims (check_error.WrongPoint line) a b)
+accepted_or_none tree cert claims (check_error.Missing point) a b = absurd (accepted_or_fails tree cert claims (check_error.Missing point) a b)
+accepted_or_none tree cert claims (check_error.NotHit point) a b = absurd (accepted_or_fails tree cert claims (check_error.NotHit point) a b)
+accepted_or_none tree cert claims check_error.Memory a b = refl
+
+-- a refusal of the one for the other: the text has no design, or it has one and the claims fail, or memory ran out
+abbrev RefusedFor : Tree → Setup → ℕ → Type 0
+RefusedFor tree setup status = ((status ≡ 4) × (IsBuilt tree setup → ⊥)) ⊎ (((status ≡ 5) × IsBuilt tree setup) ⊎ (status ≡ 7))
+
+fails_five : (tree : Tree) (cert : Cert) (fault : CheckError) → Fails tree cert fault → IsBuilt tree cert.setup
+fails_five tree cert fault f = built tree cert.setup f.0 f.1
+
+refused_for : (tree : Tree) (cert : Cert) (error : CheckError) → Judges tree cert (Err error) → RefusedFor tree cert.setup (check_status error)
+refused_for tree cert (check_error.Source (source_error.Text error)) b = absurd b
+refused_for tree cert (check_error.Source (source_error.NotBuilt place)) b = inl (refl, b.0)
+refused_for tree cert (check_error.Source source_error.Memory) b = absurd b
+refused_for tree cert (check_error.Cert error) b = absurd b
+refused_for tree cert (check_error.WrongPoint line) b = inr (inl (refl, fails_five tree cert (check_error.WrongPoint line) b))
+refused_for tree cert (check_error.Missing point) b = inr (inl (refl, fails_five tree cert (check_error.Missing point) b))
+refused_for tree cert (check_error.NotHit point) b = inr (inl (refl, fails_five tree cert (check_error.NotHit point) b))
+refused_for tree cert check_error.Memory b = inr (inr refl)
+
+agree_back : (a b : ℕ) → Agree a b → Agree b a
+agree_back a b (inl e) = inl (sym e)
+agree_back a b (inr (inl e)) = inr (inr e)
+agree_back a b (inr (inr e)) = inr (inl e)
+
+refused_alike : (tree : Tree) (setup : Setup) (a b : ℕ) → RefusedFor tree setup a → RefusedFor tree setup b → Agree a b
+refused_alike tree setup a b (inl x) (inl y) = inl (x.0 ∙ sym y.0)
+refused_alike tree setup a b (inl x) (inr (inl y)) = absurd (x.1 y.1)
+refused_alike tree setup a b (inl x) (inr (inr y)) = inr (inr y)
+refused_alike tree setup a b (inr (inl x)) (inl y) = absurd (y.1 x.1)
+refused_alike tree setup a b (inr (inl x)) (inr (inl y)) = inl (x.0 ∙ sym y.0)
+refused_alike tree setup a b (inr (inl x)) (inr (inr y)) = inr (inr y)
+refused_alike tree setup a b (inr (inr x)) y = inr (inl x)
+
+judged_alike : (tree : Tree) (cert : Cert) (x y : Result (List Claim) CheckError) → Judges tree cert x → Judges tree cert y → Agree (judged_status x) (judged_status y)
+judged_alike tree cert (Ok claims) (Ok others) a b = inl refl
+judged_alike tree cert (Ok claims) (Err error) a b = inr (inr (accepted_or_none tree cert claims error a b))
+judged_alike tree cert (Err error) (Ok claims) a b = inr (inl (accepted_or_none tree cert claims error b a))
+judged_alike tree cert (Err error) (Err other) a b = refused_alike tree cert.setup (check_status error) (check_status other) (refused_for tree cert error a) (refused_for tree cert other b)
+
+are_judged_alike : (text spelling : List ℕ) (x y : Result (List Claim) CheckError) → ReadAndJudged text spelling x → ReadAndJudged text spelling y → Agree (judged_status x) (judged_status y)
+are_judged_alike text spelling x y a b =
+    let tree = one_tree text b.0 a.0 b.2 a.2 in
+    let cert = one_cert spelling b.1 a.1 b.3 a.3 in
+    let P : Tree → Type 0 = λ t. Judges t b.1 y in
+    let Q : Cert → Type 0 = λ c. Judges a.0 c y in
+    judged_alike a.0 a.1 x y a.4 (subst Q cert (subst P tree b.4))
+
+-- statuses of refusals
+text_four : (error : TextError) → (text_status error ≡ 4) ⊎ (text_status error ≡ 7)
+text_four (text_error.TooLong count) = inl refl
+text_four (text_error.Parse (parse_error.Expected place what)) = inl refl
+text_four (text_error.Parse parse_error.Memory) = inr refl
+text_four text_error.Memory = inr refl
+
+cert_five : (error : CertError) → (cert_status error ≡ 5) ⊎ (cert_status error ≡ 7)
+cert_five (cert_error.BadCert line) = inl refl
+cert_five cert_error.Memory = inr refl
+
+same_or_memory : (n a b : ℕ) → (a ≡ n) ⊎ (a ≡ 7) → (b ≡ n) ⊎ (b ≡ 7) → Agree a b
+same_or_memory n a b (inl x) (inl y) = inl (x ∙ sym y)
+same_or_memory n a b (inl x) (inr y) = inr (inr y)
+same_or_memory n a b (inr x) y = inr (inl x)
+
+-- the bytes deserve one status
+deserve_once : (text spelling : List ℕ) (a b : ℕ) → Deserve text spelling a → Deserve text spelling b → Agree a b
+deserve_once text spelling a b (inl x) (inl y) = rw (x.2, y.2) (same_or_memory 4 (text_status x.0) (text_status y.0) (text_four x.0) (text_four y.0))
+deserve_once text spelling a b (inl x) (inr (inl y)) = inr (inl (x.2 ∙ text_or_none text y.1.tree x.0 y.1.text_of_tree x.1))
+deserve_once text spelling a b (inl x) (inr (inr y)) = inr (inl (x.2 ∙ text_or_none text y.1.0 x.0 y.1.2 x.1))
+deserve_once text spelling a b (inr (inl x)) (inl y) = inr (inr (y.2 ∙ text_or_none text x.1.tree y.0 x.1.text_of_tree y.1))
+deserve_once text spelling a b (inr (inl x)) (inr (inl y)) = rw (x.2, y.2) (same_or_memory 5 (cert_status x.0) (cert_status y.0) (cert_five x.0) (cert_five y.0))
+deserve_once text spelling a b (inr (inl x)) (inr (inr y)) = inr (inl (x.2 ∙ cert_or_none spelling y.1.1 x.0 y.1.3 x.1.refused))
+deserve_once text spelling a b (inr (inr x)) (inl y) = inr (inr (y.2 ∙ text_or_none text x.1.0 y.0 x.1.2 y.1))
+deserve_once text spelling a b (inr (inr x)) (inr (inl y)) = inr (inr (y.2 ∙ cert_or_none spelling x.1.1 y.0 x.1.3 y.1.refused))
+deserve_once text spelling a b (inr (inr x)) (inr (inr y)) = rw (x.2, y.2) (are_judged_alike text spelling x.0 y.0 x.1 y.1)
+
+-- the bytes of a file are the same whenever it is loaded
+one_front : (load : List ℕ × ℕ) (files : List (List ℕ × List ℕ)) (x y : List ℕ) → IsFrontOfFile load files x → IsFrontOfFile load files y → x ≡ y
+one_front load files x y a b =
+    let same : a.0 ≡ b.0 = (let k : Some a.0 ≡ Some b.0 = sym a.1 ∙ b.1 in cc) in
+    a.2 ∙ (ap (λ file. take load.1 file) same ∙ sym b.2)
+
+-- what the run's refusal deserves
+refusal_deserved : (file cert text spelling : List ℕ) (loaded : List (List ℕ)) (refusal : Refusal) (files : List (List ℕ × List ℕ)) → AreLoaded (loads_of (Check_files file cert)) (text ∷ spelling ∷ []) files → AreLoaded (loads_of (Check_files file cert)) loaded files → CheckRefuses loaded refusal → Deserve text spelling (refusal_status refusal)
+refusal_deserved file cert text spelling loaded (refusal.Text error) files have are r =
+    let are' = subst (λ l. AreLoaded (loads_of (Check_files file cert)) l files) r.1 are in
+    inl (error, text_so text r.0 (Err error) (one_front (file, SOURCE_MOST) files r.0 text are'.0 have.0) r.2, refl)
+refusal_deserved file cert text spelling loaded (refusal.Cert error) files have are r =
+    let are' = subst (λ l. AreLoaded (loads_of (Check_files file cert)) l files) r.2 are in
+    inr (inl (error, nothing_so text r.0 spelling r.1 error (one_front (file, SOURCE_MOST) files r.0 text are'.0 have.0) (one_front (cert, 2 ^ 64 - 1) files r.1 spelling are'.1.0 have.1.0) r.3, refl))
+refusal_deserved file cert text spelling loaded (refusal.Check error) files have are r =
+    let are' = subst (λ l. AreLoaded (loads_of (Check_files file cert)) l files) r.2 are in
+    inr (inr (Err error, both_so text r.0 spelling r.1 (Err error) (one_front (file, SOURCE_MOST) files r.0 text are'.0 have.0) (one_front (cert, 2 ^ 64 - 1) files r.1 spelling are'.1.0 have.1.0) r.3, refl))
+
+-- and its report
+report_deserved : (file cert text spelling put : List ℕ) (loaded : List (List ℕ)) (files : List (List ℕ × List ℕ)) → AreLoaded (loads_of (Check_files file cert)) (text ∷ spelling ∷ []) files → AreLoaded (loads_of (Check_files file cert)) loaded files → Answers (Check_files file cert) loaded put → Deserve text spelling 0
+report_deserved file cert text spelling put loaded files have are r =
+    let are' = subst (λ l. AreLoaded (loads_of (Check_files file cert)) l files) r.2 are in
+    inr (inr (Ok r.3.claims, both_so text r.0 spelling r.1 (Ok r.3.claims) (one_front (file, SOURCE_MOST) files r.0 text are'.0 have.0) (one_front (cert, 2 ^ 64 - 1) files r.1 spelling are'.1.0 have.1.0) r.3.accepted, refl))
+
+-- where no count rose, the status is the one deserved
+ran_exact : (file cert text spelling : List ℕ) (status deserved : ℕ) (end : End) (known : Told) (desk desk' : DeskState) (out out' : SinkState) → Ran (Check_files file cert) end desk desk' out out' → status ≡ status_of end
+    → desk.told ≡ Some known → AreLoaded (loads_of (Check_files file cert)) (text ∷ spelling ∷ []) known.files → Deserve text spelling deserved
+    → (Rose desk.faults desk'.faults → ⊥) → (Rose out.faults out'.faults → ⊥) → Agree status deserved
+ran_exact file cert text spelling status deserved Done known desk desk' out out' ran e told have deserve desk_well out_well =
+    let are : AreTold (Some known) (Check_files file cert) ran.loaded = subst (λ t. AreTold t (Check_files file cert) ran.loaded) told (told_of (Check_files file cert) ran.loaded [] desk.told desk'.told ran.desk_kept) in
+    rw e (deserve_once text spelling 0 deserved (report_deserved file cert text spelling ran.piece ran.loaded known.files have are ran.reason) deserve)
+ran_exact file cert text spelling status deserved (Stopped Not_words) known desk desk' out out' ran e told have deserve desk_well out_well = absurd ran.reason
+ran_exact file cert text spelling status deserved (Stopped (Fault_at name)) known desk desk' out out' ran e told have deserve desk_well out_well = absurd (desk_well ran.reason.1)
+ran_exact file cert text spelling status deserved (Stopped Fault_of_output) known desk desk' out out' ran e told have deserve desk_well out_well = absurd (out_well ran.reason.1)
+ran_exact file cert text spelling status deserved (Stopped Out_of_memory) known desk desk' out out' ran e told have deserve desk_well out_well = inr (inl e)
+ran_exact file cert text spelling status deserved (Stopped (Not_taken refusal)) known desk desk' out out' ran e told have deserve desk_well out_well =
+    let are : AreTold (Some known) (Check_files file cert) ran.loaded = subst (λ t. AreTold t (Check_files file cert) ran.loaded) told (told_of (Check_files file cert) ran.loaded [] desk.told desk'.told ran.desk_kept) in
+    rw e (deserve_once text spelling (refusal_status refusal) deserved (refusal_deserved file cert text spelling ran.loaded refusal known.files have are ran.reason.0) deserve)
+
+pub exact_of : {words : List (List ℕ)} {status : ℕ} {desk desk' : DeskState} {out out' err err' : SinkState} → Outcome words status desk desk' out out' err err' → (file cert text spelling : List ℕ) (deserved : ℕ) → Names words (Check_files file cert) → HaveBytes desk.told file cert text spelling → Deserve text spelling deserved → (Rose desk.faults desk'.faults → ⊥) → (Rose out.faults out'.faults → ⊥) → Agree status deserved
+exact_of {words} {status} {desk} {desk'} {out} {out'} o file cert text spelling deserved names have deserve desk_well out_well =
+    ran_exact file cert text spelling status deserved o.end have.0 desk desk' out out' (ran_of words (Check_files file cert) o.end desk desk' out out' o.ended names) o.status_is have.1 have.2 deserve desk_well out_well

@@ -1,0 +1,11 @@
+pub mod Words
+pub mod Requests
+pub mod Pieces
+pub mod Report
+pub mod Ends
+pub mod Statuses
+pub mod Messages
+pub mod Content
+pub mod Outcome
+pub mod Steps
+pub mod Promises

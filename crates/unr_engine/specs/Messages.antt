@@ -1,0 +1,62 @@
+-- The one line that a run puts on the error output, and its line feed. Nothing where it is done.
+use Rattle.std.specs.Prelude.{ℕ, List, [], ◌++◌, codes, decimal}
+use Rattle.vlog_items.specs.declared.error.TextError.{TextError}
+use Rattle.vlog_items.specs.declared.error.TextError.TheVariants as text
+use Rattle.vlog_items.specs.declared.error.ParseError.{ParseError}
+use Rattle.vlog_items.specs.declared.error.ParseError.TheVariants as parse
+use Rattle.cert_text.specs.declared.error.CertError.{CertError}
+use Rattle.cert_text.specs.declared.error.CertError.TheVariants as cert
+use Rattle.source_check.specs.declared.error.SourceError.{SourceError}
+use Rattle.source_check.specs.declared.error.SourceError.TheVariants as source
+use Rattle.source_check.specs.declared.error.CheckError.{CheckError}
+use Rattle.source_check.specs.declared.error.CheckError.TheVariants as check
+use Rattle.unr_engine.specs.declared.stop.Refusal.{Refusal}
+use Rattle.unr_engine.specs.declared.stop.Refusal.TheVariants as refusal
+use Rattle.unr_engine.specs.Ends.{Why, Not_words, Fault_at, Fault_of_output, Out_of_memory, Not_taken, End, Done, Stopped}
+
+abbrev pub memory_message : List ℕ
+memory_message = codes "unr: memory\n"
+
+abbrev pub parse_message : ParseError → List ℕ
+parse_message (parse.Expected place what) =
+    codes "unr: source " ++ (decimal place.line ++ (codes ":" ++ (decimal place.col ++ (codes " Expected " ++ (what ++ codes "\n")))))
+parse_message parse.Memory = memory_message
+
+abbrev pub text_message : TextError → List ℕ
+text_message (text.TooLong count) = codes "unr: source TooLong " ++ (decimal count ++ codes "\n")
+text_message (text.Parse error) = parse_message error
+text_message text.Memory = memory_message
+
+abbrev pub cert_message : CertError → List ℕ
+cert_message (cert.BadCert line) = codes "unr: cert line " ++ (decimal line ++ codes "\n")
+cert_message cert.Memory = memory_message
+
+abbrev pub source_message : SourceError → List ℕ
+source_message (source.Text error) = text_message error
+source_message (source.NotBuilt place) =
+    codes "unr: source " ++ (decimal place.line ++ (codes ":" ++ (decimal place.col ++ codes " NotBuilt\n")))
+source_message source.Memory = memory_message
+
+abbrev pub check_message : CheckError → List ℕ
+check_message (check.Source error) = source_message error
+check_message (check.Cert error) = cert_message error
+check_message (check.WrongPoint line) = codes "unr: cert point line " ++ (decimal line ++ codes "\n")
+check_message (check.Missing point) = codes "unr: claim " ++ (point ++ codes " Missing\n")
+check_message (check.NotHit point) = codes "unr: claim " ++ (point ++ codes " NotHit\n")
+check_message check.Memory = memory_message
+
+abbrev pub refusal_message : Refusal → List ℕ
+refusal_message (refusal.Text error) = text_message error
+refusal_message (refusal.Cert error) = cert_message error
+refusal_message (refusal.Check error) = check_message error
+
+abbrev pub why_message : Why → List ℕ
+why_message Not_words = codes "unr: words\n"
+why_message (Fault_at name) = codes "unr: fault " ++ (name ++ codes "\n")
+why_message Fault_of_output = codes "unr: fault output\n"
+why_message Out_of_memory = memory_message
+why_message (Not_taken refusal) = refusal_message refusal
+
+abbrev pub message_of : End → List ℕ
+message_of Done = []
+message_of (Stopped why) = why_message why

@@ -1,0 +1,86 @@
+-- What a run promises, one by one.
+use Rattle.std.specs.Prelude.{◌≡◌, ◌⊎◌, ℕ, List, [], ◌∷◌, ◌++◌, Option, Some, None, Result, Ok, Err, ⊤}
+use Rattle.unr_io.specs.declared.desk.Kind.{Kind}
+use Rattle.unr_io.specs.declared.desk.Kind.TheVariants.{Load}
+use Rattle.unr_io.specs.Desk.{DeskState, Told}
+use Rattle.unr_io.specs.Sink.{SinkState, appended}
+use Rattle.vlog_items.specs.declared.error.TextError.{TextError}
+use Rattle.vlog_items.specs.Answers.{TextAnswers}
+use Rattle.cert_text.specs.declared.error.CertError.{CertError}
+use Rattle.cert_text.specs.declared.claim.Claim.{Claim}
+use Rattle.source_check.specs.declared.error.CheckError.{CheckError}
+use Rattle.source_check.specs.Checking.{ReadAndJudged}
+use Rattle.source_check.specs.Judging.{AreTrue}
+use Rattle.unr_engine.specs.declared.stop.Refusal.{Refusal}
+use Rattle.unr_engine.specs.Words.{Command, Check_files}
+use Rattle.unr_engine.specs.Report.{report}
+use Rattle.unr_engine.specs.Content.{SpellNothing, CheckRefuses}
+use Rattle.unr_engine.specs.Statuses.{text_status, cert_status, check_status, refusal_status}
+use Rattle.unr_engine.specs.Messages.{refusal_message}
+use Rattle.unr_engine.specs.Outcome.{AreLoaded, IsFrontOf, PutsFront, Says, loads_of}
+
+-- These bytes are the files', where the desk tells its files.
+abbrev pub AreTold : Option Told → Command → List (List ℕ) → Type 0
+AreTold None command loaded = ⊤
+AreTold (Some told) command loaded = AreLoaded (loads_of command) loaded told.files
+
+-- The certificate in CERT is accepted for the text in FILE, each of its claims is true of the text, and their report is put out.
+pub record Accepts (file cert : List ℕ) (desk : DeskState) (out out' : SinkState) : Type 0 where
+  pub text : List ℕ
+  pub spelling : List ℕ
+  pub told : AreTold desk.told (Check_files file cert) (text ∷ spelling ∷ [])
+  pub claims : List Claim
+  pub judged : ReadAndJudged text spelling (Ok claims)
+  pub are_true : AreTrue judged.0 judged.1 claims
+  pub reported : out'.written ≡ appended out.written (report claims)
+
+-- The files are refused, with that status and a message of it.
+pub record Rejects (file cert : List ℕ) (status : ℕ) (desk : DeskState) (err err' : SinkState) : Type 0 where
+  pub loaded : List (List ℕ)
+  pub told : AreTold desk.told (Check_files file cert) loaded
+  pub refusal : Refusal
+  pub refused : CheckRefuses loaded refusal
+  pub status_is : status ≡ refusal_status refusal
+  pub says : Says (refusal_message refusal) err err'
+
+-- FILE and CERT have these bytes, on a desk that tells its files.
+abbrev pub HaveBytes : Option Told → List ℕ → List ℕ → List ℕ → List ℕ → Type 0
+HaveBytes told file cert text spelling =
+    (known : Told) × (told ≡ Some known) × AreLoaded (loads_of (Check_files file cert)) (text ∷ spelling ∷ []) known.files
+
+abbrev pub judged_status : Result (List Claim) CheckError → ℕ
+judged_status (Ok claims) = 0
+judged_status (Err error) = check_status error
+
+-- The status that the bytes deserve: the text is refused; or it has a tree and the certificate is none; or the one is judged for the other.
+abbrev pub Deserve : List ℕ → List ℕ → ℕ → Type 0
+Deserve text spelling status =
+    ((error : TextError) × TextAnswers text (Err error) × (status ≡ text_status error))
+    ⊎ (((error : CertError) × SpellNothing text spelling error × (status ≡ cert_status error))
+    ⊎ ((result : Result (List Claim) CheckError) × ReadAndJudged text spelling result × (status ≡ judged_status result)))
+
+-- The same status, or one of the two is that of want of memory.
+abbrev pub Agree : ℕ → ℕ → Type 0
+Agree status other = (status ≡ other) ⊎ ((status ≡ 7) ⊎ (other ≡ 7))
+
+-- The calls of these loads.
+abbrev pub calls_for : List (List ℕ × ℕ) → List (Kind × List ℕ)
+calls_for [] = []
+calls_for (load ∷ loads) = (Load, load.0) ∷ calls_for loads
+
+-- The calls that a command makes: the first of those that it names, and all of them where it is done.
+pub record MakesCalls (command : Command) (status : ℕ) (was is : Told) : Type 0 where
+  pub made : List (Kind × List ℕ)
+  pub calls : is.calls ≡ was.calls ++ made
+  pub front : IsFrontOf made (calls_for (loads_of command))
+  pub whole : status ≡ 0 → made ≡ calls_for (loads_of command)
+
+-- A front of the text that the command puts out, or nothing.
+pub record PutsPart (command : Command) (desk : DeskState) (out out' : SinkState) : Type 0 where
+  pub piece : List ℕ
+  pub written : out'.written ≡ appended out.written piece
+  pub part : (piece ≡ []) ⊎ ((loaded : List (List ℕ)) × AreTold desk.told command loaded × PutsFront command loaded piece)
+
+-- Every file stays.
+abbrev pub FilesStay : Told → Told → Type 0
+FilesStay was is = is.files ≡ was.files

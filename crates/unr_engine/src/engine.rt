@@ -1,0 +1,105 @@
+// The whole of a run: the words, the command that they name, the message and the status.
+ghost use Rattle.std.specs.Prelude.{◌≡◌, ◌⊎◌, ◌↔◌, List, ℕ};
+ghost use Rattle.unr_io.specs.Desk.{Tells, Rose};
+ghost use Rattle.unr_engine.specs.Ends.{End, end_of};
+ghost use Rattle.unr_engine.specs.Messages.{message_of};
+ghost use Rattle.unr_engine.specs.Outcome.{Ran, Ended, Says, Outcome};
+ghost use Rattle.unr_engine.specs.Promises.{Accepts, Rejects, HaveBytes, Deserve, Agree, MakesCalls, PutsPart, FilesStay};
+ghost use Rattle.unr_engine.specs.Requests.{meaning};
+ghost use Rattle.unr_engine.specs.Statuses.{status_of};
+ghost use Rattle.unr_engine.specs.Words.{Command, Check_files, Names, NamesNothing, texts};
+
+use crate::check::check_files;
+use crate::messages::say_stop;
+use crate::stop::{Stop, stop_status};
+use crate::words::{Request, request_of};
+use std::alloc::Global;
+use unr_io::{Desk, Sink};
+
+// Runs a command.
+fn perform<'a, D: Desk, O: Sink>(
+    alloc: Global,
+    request: Request<'a>,
+    desk: &mut D,
+    out: &mut O,
+) -> Result<(), Stop<'a>>
+    ensures { Ran (meaning request.entry) (end_of result) (D.state desk.old) (D.state desk.new) (O.state out.old) (O.state out.new) }
+{
+    match request {
+        Request::Check { file, cert } => check_files(alloc, file, cert, desk, out),
+    }
+}
+
+// Does what the words say.
+fn obey<'a, D: Desk, O: Sink>(
+    alloc: Global,
+    words: &'a [String],
+    desk: &mut D,
+    out: &mut O,
+) -> Result<(), Stop<'a>>
+    ensures { Ended (texts words.now) (end_of result) (D.state desk.old) (D.state desk.new) (O.state out.old) (O.state out.new) }
+{
+    match request_of(words) {
+        None => Err(Stop::Words),
+        Some(request) => perform(alloc, request, desk, out),
+    }
+}
+
+// Says on the error output how the run ended, and gives its status.
+fn conclude<E: Sink>(err: &mut E, ended: Result<(), Stop<'_>>) -> u8
+    ensures status { result ≡ status_of (end_of ended.entry) }
+    ensures says { Says (message_of (end_of ended.entry)) (E.state err.old) (E.state err.new) }
+{
+    match ended {
+        Ok(()) => 0,
+        Err(stop) => {
+            let _ = say_stop(err, &stop);
+            stop_status(&stop)
+        }
+    }
+}
+
+/// Runs the command that the words name, and answers the status with which the program ends.
+///
+/// The words leave out the program's name. Status 7, want of memory, may come at any place.
+pub fn run<D: Desk, O: Sink, E: Sink>(
+    alloc: Global,
+    words: &[String],
+    desk: &mut D,
+    out: &mut O,
+    err: &mut E,
+) -> u8
+    // Status 2 is for words that name no command. Then nothing is loaded, and nothing is put out.
+    ensures words { (result ≡ 2) ↔ NamesNothing (texts words.now) }
+    ensures untouched { result ≡ 2 → (D.state desk.new ≡ D.state desk.old) × (O.state out.new ≡ O.state out.old) }
+
+    // `check` ends with 0 only where CERT's certificate is accepted for FILE's text. Then each claim is true of the text.
+    ensures accepts { (file cert : List ℕ) → Names (texts words.now) (Check_files file cert) → result ≡ 0 → Accepts file cert (D.state desk.old) (O.state out.old) (O.state out.new) }
+
+    // It ends with 4 or 5 only where their bytes are refused with that status: the text, or the certificate.
+    ensures rejects { (file cert : List ℕ) → Names (texts words.now) (Check_files file cert) → (result ≡ 4) ⊎ (result ≡ 5) → Rejects file cert result (D.state desk.old) (E.state err.old) (E.state err.new) }
+
+    // Where no count rose, the status is the one that the bytes deserve, or that of want of memory.
+    ensures exact { (file cert text spelling : List ℕ) (deserved : ℕ) → Names (texts words.now) (Check_files file cert) → HaveBytes (D.state desk.old).told file cert text spelling → Deserve text spelling deserved → (Rose (D.state desk.old).faults (D.state desk.new).faults → ⊥) → (Rose (O.state out.old).faults (O.state out.new).faults → ⊥) → Agree result deserved }
+
+    // Status 3 comes only where the desk or the output failed in this call.
+    ensures fault { result ≡ 3 → Rose (D.state desk.old).faults (D.state desk.new).faults ⊎ Rose (O.state out.old).faults (O.state out.new).faults }
+
+    // No file is written, and the desk is asked for what the words name alone, in order.
+    ensures files { Tells (D.state desk.old).told (D.state desk.new).told FilesStay }
+    ensures calls { (command : Command) → Names (texts words.now) command → Tells (D.state desk.old).told (D.state desk.new).told (MakesCalls command result) }
+
+    // Where the words or the files are refused nothing is put out, and after a fault or for want of memory a front of the text at most.
+    ensures silent { (result ≡ 2) ⊎ ((result ≡ 4) ⊎ (result ≡ 5)) → (O.state out.new).written ≡ (O.state out.old).written }
+    ensures part { (command : Command) → Names (texts words.now) command → PutsPart command (D.state desk.old) (O.state out.old) (O.state out.new) }
+
+    // The error output gets nothing at status 0, else the one line of the message, or a front of it where one of its counts rose.
+    ensures message { (end : End) × (result ≡ status_of end) × Says (message_of end) (E.state err.old) (E.state err.new) }
+    ensures quiet { result ≡ 0 → (E.state err.new).written ≡ (E.state err.old).written }
+
+    // And all of it at once, by the way that the run ends.
+    ensures outcome { Outcome (texts words.now) result (D.state desk.old) (D.state desk.new) (O.state out.old) (O.state out.new) (E.state err.old) (E.state err.new) }
+{
+    let ended = obey(alloc, words, desk, out);
+    conclude(err, ended)
+}

@@ -1,0 +1,142 @@
+// Why a run does not do what its words say, and the status of that.
+ghost use Rattle.std.specs.Prelude.{◌≡◌};
+ghost use Rattle.unr_engine.specs.Statuses.{text_status, cert_status, source_status, check_status, refusal_status, why_status};
+ghost use Rattle.unr_engine.specs.Ends.{why_of};
+
+use cert_text::CertError;
+use source_check::{CheckError, SourceError};
+use std::alloc::AllocError;
+use vlog_items::{ParseError, TextError};
+
+/// Why the content of the files is refused.
+#[derive(Drop)]
+pub enum Refusal {
+    /// FILE is no source text. It is judged before CERT is loaded.
+    Text(TextError),
+    /// CERT is no certificate.
+    Cert(CertError),
+    /// The certificate is not accepted for the text.
+    Check(CheckError),
+}
+
+/// Why a run does not do what its words say.
+#[derive(Drop)]
+pub enum Stop<'a> {
+    /// The words name no command.
+    Words,
+    /// A fault of the desk, at the file of that name.
+    Fault { name: &'a str },
+    /// A fault of the output.
+    Output,
+    Memory,
+    Refused(Refusal),
+}
+
+impl<'a> From<AllocError> for Stop<'a> {
+    ghost use Rattle.unr_engine.specs.declared.stop.Stop.TheVariants.{Memory};
+
+    ghost from_gives = { λ _ stop. stop ≡ Memory };
+
+    fn from(_: AllocError) -> Self {
+        Stop::Memory
+    }
+}
+
+impl<'a> From<TextError> for Stop<'a> {
+    ghost use Rattle.unr_engine.specs.declared.stop.Stop.TheVariants.{Refused};
+    ghost use Rattle.unr_engine.specs.declared.stop.Refusal.TheVariants.{Text};
+
+    ghost from_gives = { λ error stop. stop ≡ Refused (Text error) };
+
+    fn from(error: TextError) -> Self {
+        Stop::Refused(Refusal::Text(error))
+    }
+}
+
+impl<'a> From<CertError> for Stop<'a> {
+    ghost use Rattle.unr_engine.specs.declared.stop.Stop.TheVariants.{Refused};
+    ghost use Rattle.unr_engine.specs.declared.stop.Refusal.TheVariants as refusal;
+
+    ghost from_gives = { λ error stop. stop ≡ Refused (refusal.Cert error) };
+
+    fn from(error: CertError) -> Self {
+        Stop::Refused(Refusal::Cert(error))
+    }
+}
+
+impl<'a> From<CheckError> for Stop<'a> {
+    ghost use Rattle.unr_engine.specs.declared.stop.Stop.TheVariants.{Refused};
+    ghost use Rattle.unr_engine.specs.declared.stop.Refusal.TheVariants as refusal;
+
+    ghost from_gives = { λ error stop. stop ≡ Refused (refusal.Check error) };
+
+    fn from(error: CheckError) -> Self {
+        Stop::Refused(Refusal::Check(error))
+    }
+}
+
+fn text_status(error: &TextError) -> u8
+    ensures { result ≡ text_status error.now }
+{
+    match error {
+        TextError::TooLong { .. } => 4,
+        TextError::Parse(ParseError::Expected { .. }) => 4,
+        TextError::Parse(ParseError::Memory) => 7,
+        TextError::Memory => 7,
+    }
+}
+
+fn cert_status(error: &CertError) -> u8
+    ensures { result ≡ cert_status error.now }
+{
+    match error {
+        CertError::BadCert { .. } => 5,
+        CertError::Memory => 7,
+    }
+}
+
+fn source_status(error: &SourceError) -> u8
+    ensures { result ≡ source_status error.now }
+{
+    match error {
+        SourceError::Text(error) => text_status(error),
+        SourceError::NotBuilt { .. } => 4,
+        SourceError::Memory => 7,
+    }
+}
+
+fn check_status(error: &CheckError) -> u8
+    ensures { result ≡ check_status error.now }
+{
+    match error {
+        CheckError::Source(error) => source_status(error),
+        CheckError::Cert(error) => cert_status(error),
+        CheckError::WrongPoint { .. } => 5,
+        CheckError::Missing { .. } => 5,
+        CheckError::NotHit { .. } => 5,
+        CheckError::Memory => 7,
+    }
+}
+
+fn refusal_status(refusal: &Refusal) -> u8
+    ensures { result ≡ refusal_status refusal.now }
+{
+    match refusal {
+        Refusal::Text(error) => text_status(error),
+        Refusal::Cert(error) => cert_status(error),
+        Refusal::Check(error) => check_status(error),
+    }
+}
+
+/// The status with which the program ends.
+pub fn stop_status(stop: &Stop<'_>) -> u8
+    ensures { result ≡ why_status (why_of stop.now) }
+{
+    match stop {
+        Stop::Words => 2,
+        Stop::Fault { .. } => 3,
+        Stop::Output => 3,
+        Stop::Memory => 7,
+        Stop::Refused(refusal) => refusal_status(refusal),
+    }
+}

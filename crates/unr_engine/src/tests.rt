@@ -1,0 +1,172 @@
+// Runs over a desk and sinks in memory.
+use crate::run;
+use std::alloc::{AllocError, Global};
+use std::process::Abort;
+use std::test::Fail as TestFail;
+use unr_io::{Fail, Files, MemDesk, MemSink};
+
+const TEXT: &[u8] =
+    b"module t(input clk, input a, output reg q); always @(posedge clk) q <= a; endmodule";
+
+const CERT: &str =
+    "unr 1|top t|clock clk|cycles 0|points s|claims 1|S t #1|reached 0|start 0|in 0|end|";
+
+const REPORT: &[u8] = b"reached 0 S t #1\npoints 1 excluded 0 reached 1 open 0\n";
+
+// A run, and what it is to give. In `cert` a bar stands for a line feed. Of `fails` the first is the call of the desk that fails, then that of the output and of the error output, or 0.
+#[derive(Clone, Copy)]
+struct Case<'a> {
+    words: &'a str,
+    text: &'a [u8],
+    cert: &'a str,
+    fails: [u32; 3],
+    status: u8,
+    out: &'a [u8],
+    err: &'a [u8],
+    calls: usize,
+}
+
+fn fails_at(alloc: Global, call: u32) -> Result<Vec<Fail>, AllocError> {
+    let mut fails = Vec::new(alloc);
+    fails.push(Fail { call, kept: 3 })?;
+    Ok(fails)
+}
+
+fn lines(alloc: Global, cert: &str) -> Result<Vec<u8>, AllocError> {
+    let mut bytes = Vec::new(alloc);
+    for byte in cert.as_bytes() {
+        bytes.push(if *byte == b'|' { b'\n' } else { *byte })?;
+    }
+    Ok(bytes)
+}
+
+fn words_of(alloc: Global, words: &str) -> Result<Vec<String>, AllocError> {
+    let mut list = Vec::new(alloc);
+    for word in words.split_whitespace() {
+        list.push(String::from_str(alloc, word)?)?;
+    }
+    Ok(list)
+}
+
+fn try_case(rt: &impl Abort, alloc: Global, case: &Case<'_>) -> Result<(), TestFail> {
+    let mut files = Files::new(alloc);
+    files.set(alloc, "t.v", case.text)?;
+    files.set(alloc, "t.cert", &lines(alloc, case.cert)?)?;
+    let words = words_of(alloc, case.words)?;
+    let [desk, out, err] = case.fails;
+    let mut desk = MemDesk::make(alloc, files, fails_at(alloc, desk)?);
+    let mut out = MemSink::make(alloc, fails_at(alloc, out)?);
+    let mut err = MemSink::make(alloc, fails_at(alloc, err)?);
+    let status = run(alloc, &words, &mut desk, &mut out, &mut err);
+    assert_eq!(rt; err.bytes(), case.err);
+    assert_eq!(rt; out.bytes(), case.out);
+    assert_eq!(rt; status, case.status);
+    assert_eq!(rt; desk.calls().len(), case.calls);
+    Ok(())
+}
+
+fn case_of<'a>(
+    words: &'a str,
+    cert: &'a str,
+    fails: [u32; 3],
+    status: u8,
+    err: &'a str,
+    calls: usize,
+) -> Case<'a> {
+    Case {
+        words,
+        text: TEXT,
+        cert,
+        fails,
+        status,
+        out: b"",
+        err: err.as_bytes(),
+        calls,
+    }
+}
+
+#[test]
+fn runs(rt: HostRuntime) -> Result<(), TestFail> {
+    let check = "check t.v t.cert";
+    let spaces = vec![in rt.alloc(); b' '; 4_194_306]?;
+    let none = [0, 0, 0];
+    for case in [
+        Case {
+            out: REPORT,
+            ..case_of(check, CERT, none, 0, "", 2)
+        },
+        case_of("", CERT, none, 2, "unr: words\n", 0),
+        case_of("check t.v", CERT, none, 2, "unr: words\n", 0),
+        case_of("check t.v t.cert c", CERT, none, 2, "unr: words\n", 0),
+        case_of("check -v t.cert", CERT, none, 2, "unr: words\n", 0),
+        case_of("check u.v t.cert", CERT, none, 3, "unr: fault u.v\n", 1),
+        case_of("check t.v u.cert", CERT, none, 3, "unr: fault u.cert\n", 2),
+        Case {
+            text: b"",
+            ..case_of(check, CERT, none, 4, "unr: source 1:1 Expected module\n", 1)
+        },
+        Case {
+            text: &spaces,
+            ..case_of(check, CERT, none, 4, "unr: source TooLong 4194305\n", 1)
+        },
+        case_of(
+            check,
+            "unr 1|top u|clock clk|cycles 0|points s|claims 0|",
+            none,
+            4,
+            "unr: source 1:1 NotBuilt\n",
+            2,
+        ),
+        case_of(
+            check,
+            "unr 1|top t|clock clk|cycles 0|points s|claims 0|",
+            none,
+            5,
+            "unr: claim S t #1 Missing\n",
+            2,
+        ),
+        case_of(
+            check,
+            "unr 1|top t|clock clk|cycles 0|points s|claims 1|S t #1|reached 1|start 0|in 0|in 0|end|",
+            none,
+            5,
+            "unr: claim S t #1 NotHit\n",
+            2,
+        ),
+        case_of(
+            check,
+            "unr 1|top t|clock clk|cycles 0|points s|claims 1|S t #2|reached 0|start 0|in 0|end|",
+            none,
+            5,
+            "unr: cert point line 7\n",
+            2,
+        ),
+        case_of(check, "unr 2|", none, 5, "unr: cert line 1\n", 2),
+        case_of(
+            check,
+            "unr 1|top t|clock clk|cycles 0|points s|claims 1|S t #1|reached 00|",
+            none,
+            5,
+            "unr: cert line 8\n",
+            2,
+        ),
+        case_of(
+            check,
+            "unr 1|top t|clock clk|cycles 0|points s|claims 1|S t #1|reached 0|start 0|in 0|",
+            none,
+            5,
+            "unr: cert line 11\n",
+            2,
+        ),
+        case_of(check, CERT, [1, 0, 0], 3, "unr: fault t.v\n", 1),
+        case_of(check, CERT, [2, 0, 0], 3, "unr: fault t.cert\n", 2),
+        Case {
+            out: b"rea",
+            ..case_of(check, CERT, [0, 1, 0], 3, "unr: fault output\n", 2)
+        },
+        case_of("check", CERT, [0, 0, 1], 2, "unr", 0),
+    ] {
+        try_case(&rt, rt.alloc(), &case)?;
+    }
+    Ok(())
+}
