@@ -36,7 +36,7 @@ use Rattle.unr_engine.specs.Words.{Check_files, Names}
 use Rattle.unr_engine.specs.Ends.{End, Done, Stopped, Not_words, Fault_at, Fault_of_output, Out_of_memory, Not_taken}
 use Rattle.unr_engine.specs.Content.{CheckRefuses, Answers}
 use Rattle.unr_engine.specs.Outcome.{IsFrontOfFile, AreLoaded, loads_of, Ran, Outcome}
-use Rattle.unr_engine.specs.Promises.{AreTold, HaveBytes, judged_status, Deserve, Agree}
+use Rattle.unr_engine.specs.Promises.{AreTold, HasText, HaveBytes, judged_status, Deserve, Agree}
 use Rattle.unr_engine.proofs.Checks.{text_so, both_so, nothing_so}
 use Rattle.unr_engine.proofs.Kept.{told_of, ran_of}
 
@@ -208,3 +208,40 @@ ran_exact file cert text spelling status deserved (Stopped (Not_taken refusal)) 
 pub exact_of : {words : List (List ℕ)} {status : ℕ} {desk desk' : DeskState} {out out' err err' : SinkState} → Outcome words status desk desk' out out' err err' → (file cert text spelling : List ℕ) (deserved : ℕ) → Names words (Check_files file cert) → HaveBytes desk.told file cert text spelling → Deserve text spelling deserved → (Rose desk.faults desk'.faults → ⊥) → (Rose out.faults out'.faults → ⊥) → Agree status deserved
 exact_of {words} {status} {desk} {desk'} {out} {out'} o file cert text spelling deserved names have deserve desk_well out_well =
     ran_exact file cert text spelling status deserved o.end have.0 desk desk' out out' (ran_of words (Check_files file cert) o.end desk desk' out out' o.ended names) o.status_is have.1 have.2 deserve desk_well out_well
+
+-- where the text is refused, the rest is not looked at
+tree_or_none : (text text' : List ℕ) (tree : Tree) (status : ℕ) (error : TextError) → text' ≡ text → TextAnswers text' (Ok tree) → TextAnswers text (Err error) → Agree status (text_status error)
+tree_or_none text text' tree status error same has refused = inr (inr (text_or_none text tree error (text_so text text' (Ok tree) same has) refused))
+
+refusal_first : (file cert text : List ℕ) (loaded : List (List ℕ)) (error : TextError) (refusal : Refusal) (files : List (List ℕ × List ℕ)) → IsFrontOfFile (file, SOURCE_MOST) files text → TextAnswers text (Err error) → AreLoaded (loads_of (Check_files file cert)) loaded files → CheckRefuses loaded refusal → Agree (refusal_status refusal) (text_status error)
+refusal_first file cert text loaded error (refusal.Text other) files have refused are r =
+    same_or_memory 4 (text_status other) (text_status error) (text_four other) (text_four error)
+refusal_first file cert text loaded error (refusal.Cert other) files have refused are r =
+    let are' = subst (λ l. AreLoaded (loads_of (Check_files file cert)) l files) r.2 are in
+    tree_or_none text r.0 r.3.tree (cert_status other) error (one_front (file, SOURCE_MOST) files r.0 text are'.0 have) r.3.text_of_tree refused
+refusal_first file cert text loaded error (refusal.Check other) files have refused are r =
+    let are' = subst (λ l. AreLoaded (loads_of (Check_files file cert)) l files) r.2 are in
+    tree_or_none text r.0 r.3.0 (check_status other) error (one_front (file, SOURCE_MOST) files r.0 text are'.0 have) r.3.2 refused
+
+report_first : (file cert text put : List ℕ) (loaded : List (List ℕ)) (error : TextError) (files : List (List ℕ × List ℕ)) → IsFrontOfFile (file, SOURCE_MOST) files text → TextAnswers text (Err error) → AreLoaded (loads_of (Check_files file cert)) loaded files → Answers (Check_files file cert) loaded put → Agree 0 (text_status error)
+report_first file cert text put loaded error files have refused are r =
+    let are' = subst (λ l. AreLoaded (loads_of (Check_files file cert)) l files) r.2 are in
+    tree_or_none text r.0 r.3.accepted.0 0 error (one_front (file, SOURCE_MOST) files r.0 text are'.0 have) r.3.accepted.2 refused
+
+ran_text_first : (file cert text : List ℕ) (status : ℕ) (error : TextError) (end : End) (known : Told) (desk desk' : DeskState) (out out' : SinkState) → Ran (Check_files file cert) end desk desk' out out' → status ≡ status_of end
+    → desk.told ≡ Some known → IsFrontOfFile (file, SOURCE_MOST) known.files text → TextAnswers text (Err error)
+    → (Rose desk.faults desk'.faults → ⊥) → (Rose out.faults out'.faults → ⊥) → Agree status (text_status error)
+ran_text_first file cert text status error Done known desk desk' out out' ran e told have refused desk_well out_well =
+    let are : AreTold (Some known) (Check_files file cert) ran.loaded = subst (λ t. AreTold t (Check_files file cert) ran.loaded) told (told_of (Check_files file cert) ran.loaded [] desk.told desk'.told ran.desk_kept) in
+    rw e (report_first file cert text ran.piece ran.loaded error known.files have refused are ran.reason)
+ran_text_first file cert text status error (Stopped Not_words) known desk desk' out out' ran e told have refused desk_well out_well = absurd ran.reason
+ran_text_first file cert text status error (Stopped (Fault_at name)) known desk desk' out out' ran e told have refused desk_well out_well = absurd (desk_well ran.reason.1)
+ran_text_first file cert text status error (Stopped Fault_of_output) known desk desk' out out' ran e told have refused desk_well out_well = absurd (out_well ran.reason.1)
+ran_text_first file cert text status error (Stopped Out_of_memory) known desk desk' out out' ran e told have refused desk_well out_well = inr (inl e)
+ran_text_first file cert text status error (Stopped (Not_taken refusal)) known desk desk' out out' ran e told have refused desk_well out_well =
+    let are : AreTold (Some known) (Check_files file cert) ran.loaded = subst (λ t. AreTold t (Check_files file cert) ran.loaded) told (told_of (Check_files file cert) ran.loaded [] desk.told desk'.told ran.desk_kept) in
+    rw e (refusal_first file cert text ran.loaded error refusal known.files have refused are ran.reason.0)
+
+pub text_first_of : {words : List (List ℕ)} {status : ℕ} {desk desk' : DeskState} {out out' err err' : SinkState} → Outcome words status desk desk' out out' err err' → (file cert text : List ℕ) (error : TextError) → Names words (Check_files file cert) → HasText desk.told file text → TextAnswers text (Err error) → (Rose desk.faults desk'.faults → ⊥) → (Rose out.faults out'.faults → ⊥) → Agree status (text_status error)
+text_first_of {words} {status} {desk} {desk'} {out} {out'} o file cert text error names have refused desk_well out_well =
+    ran_text_first file cert text status error o.end have.0 desk desk' out out' (ran_of words (Check_files file cert) o.end desk desk' out out' o.ended names) o.status_is have.1 have.2 refused desk_well out_well

@@ -11,13 +11,14 @@ use Rattle.cert_text.specs.declared.claim.Claim.{Claim}
 use Rattle.source_check.specs.declared.error.CheckError.{CheckError}
 use Rattle.source_check.specs.Checking.{ReadAndJudged}
 use Rattle.source_check.specs.Judging.{AreTrue}
+use Rattle.unr_engine.specs.declared.TheConstants.{SOURCE_MOST}
 use Rattle.unr_engine.specs.declared.stop.Refusal.{Refusal}
 use Rattle.unr_engine.specs.Words.{Command, Check_files}
 use Rattle.unr_engine.specs.Report.{report}
 use Rattle.unr_engine.specs.Content.{SpellNothing, CheckRefuses}
 use Rattle.unr_engine.specs.Statuses.{text_status, cert_status, check_status, refusal_status}
 use Rattle.unr_engine.specs.Messages.{refusal_message}
-use Rattle.unr_engine.specs.Outcome.{AreLoaded, IsFrontOf, PutsFront, Says, loads_of}
+use Rattle.unr_engine.specs.Outcome.{IsFrontOfFile, AreLoaded, IsFrontOf, PutsFront, Says, loads_of}
 
 -- These bytes are the files', where the desk tells its files.
 abbrev pub AreTold : Option Told → Command → List (List ℕ) → Type 0
@@ -42,6 +43,10 @@ pub record Rejects (file cert : List ℕ) (status : ℕ) (desk : DeskState) (err
   pub refused : CheckRefuses loaded refusal
   pub status_is : status ≡ refusal_status refusal
   pub says : Says (refusal_message refusal) err err'
+
+-- FILE has these bytes, on a desk that tells its files.
+abbrev pub HasText : Option Told → List ℕ → List ℕ → Type 0
+HasText told file text = (known : Told) × (told ≡ Some known) × IsFrontOfFile (file, SOURCE_MOST) known.files text
 
 -- FILE and CERT have these bytes, on a desk that tells its files.
 abbrev pub HaveBytes : Option Told → List ℕ → List ℕ → List ℕ → List ℕ → Type 0

@@ -1,12 +1,14 @@
 // The whole of a run: the words, the command that they name, the message and the status.
 ghost use Rattle.std.specs.Prelude.{◌≡◌, ◌⊎◌, ◌↔◌, List, ℕ};
 ghost use Rattle.unr_io.specs.Desk.{Tells, Rose};
+ghost use Rattle.vlog_items.specs.declared.error.TextError.{TextError};
+ghost use Rattle.vlog_items.specs.Answers.{TextAnswers};
 ghost use Rattle.unr_engine.specs.Ends.{End, end_of};
 ghost use Rattle.unr_engine.specs.Messages.{message_of};
 ghost use Rattle.unr_engine.specs.Outcome.{Ran, Ended, Says, Outcome};
-ghost use Rattle.unr_engine.specs.Promises.{Accepts, Rejects, HaveBytes, Deserve, Agree, MakesCalls, PutsPart, FilesStay};
+ghost use Rattle.unr_engine.specs.Promises.{Accepts, Rejects, HasText, HaveBytes, Deserve, Agree, MakesCalls, PutsPart, FilesStay};
 ghost use Rattle.unr_engine.specs.Requests.{meaning};
-ghost use Rattle.unr_engine.specs.Statuses.{status_of};
+ghost use Rattle.unr_engine.specs.Statuses.{text_status, status_of};
 ghost use Rattle.unr_engine.specs.Words.{Command, Check_files, Names, NamesNothing, texts};
 
 use crate::check::check_files;
@@ -81,6 +83,9 @@ pub fn run<D: Desk, O: Sink, E: Sink>(
 
     // Where no count rose, the status is the one that the bytes deserve, or that of want of memory.
     ensures exact { (file cert text spelling : List ℕ) (deserved : ℕ) → Names (texts words.now) (Check_files file cert) → HaveBytes (D.state desk.old).told file cert text spelling → Deserve text spelling deserved → (Rose (D.state desk.old).faults (D.state desk.new).faults → ⊥) → (Rose (O.state out.old).faults (O.state out.new).faults → ⊥) → Agree result deserved }
+
+    // Where FILE's text is refused that is so whatever CERT is, since CERT is not asked for then.
+    ensures text_first { (file cert text : List ℕ) (error : TextError) → Names (texts words.now) (Check_files file cert) → HasText (D.state desk.old).told file text → TextAnswers text (Err error) → (Rose (D.state desk.old).faults (D.state desk.new).faults → ⊥) → (Rose (O.state out.old).faults (O.state out.new).faults → ⊥) → Agree result (text_status error) }
 
     // Status 3 comes only where the desk or the output failed in this call.
     ensures fault { result ≡ 3 → Rose (D.state desk.old).faults (D.state desk.new).faults ⊎ Rose (O.state out.old).faults (O.state out.new).faults }

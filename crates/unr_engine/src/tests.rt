@@ -40,6 +40,16 @@ fn lines(alloc: Global, cert: &str) -> Result<Vec<u8>, AllocError> {
     Ok(bytes)
 }
 
+// The certificate with another text as its line of that number, from 0.
+fn with_bad_line(alloc: Global, number: usize) -> Result<String, AllocError> {
+    let mut cert = String::new(alloc);
+    for (at, line) in CERT.split('|').enumerate() {
+        cert.push_str(if at == number { "x" } else { line })?;
+        cert.push_str("|")?;
+    }
+    Ok(cert)
+}
+
 fn words_of(alloc: Global, words: &str) -> Result<Vec<String>, AllocError> {
     let mut list = Vec::new(alloc);
     for word in words.split_whitespace() {
@@ -88,7 +98,7 @@ fn case_of<'a>(
 #[test]
 fn runs(rt: HostRuntime) -> Result<(), TestFail> {
     let check = "check t.v t.cert";
-    let spaces = vec![in rt.alloc(); b' '; 4_194_306]?;
+    let spaces = vec![in rt.alloc(); b' '; 4_194_305]?;
     let none = [0, 0, 0];
     for case in [
         Case {
@@ -166,6 +176,24 @@ fn runs(rt: HostRuntime) -> Result<(), TestFail> {
         },
         case_of("check", CERT, [0, 0, 1], 2, "unr", 0),
     ] {
+        try_case(&rt, rt.alloc(), &case)?;
+    }
+    Ok(())
+}
+
+#[test]
+fn bad_lines(rt: HostRuntime) -> Result<(), TestFail> {
+    for number in 0..11 {
+        let cert = with_bad_line(rt.alloc(), number)?;
+        let err = format!(in rt.alloc(); "unr: cert line {}\n", number + 1)?;
+        let case = case_of(
+            "check t.v t.cert",
+            cert.as_str(),
+            [0, 0, 0],
+            5,
+            err.as_str(),
+            2,
+        );
         try_case(&rt, rt.alloc(), &case)?;
     }
     Ok(())

@@ -1,7 +1,7 @@
 use Rattle.unr_engine.specs.Ends.{end_of}
 use Rattle.unr_engine.specs.Outcome.{Outcome}
 use Rattle.unr_engine.specs.Words.{texts}
-use Rattle.unr_engine.proofs.Exact.{exact_of}
+use Rattle.unr_engine.proofs.Exact.{exact_of, text_first_of}
 use Rattle.unr_engine.proofs.Kept.{words_of, untouched_of, accepts_of, rejects_of, fault_of, files_of, calls_of, silent_of, part_of, quiet_of}
 use Rattle.unr_engine.proofs.engine.run.Goals as goal
 
@@ -19,6 +19,7 @@ returns g c =
       accepts = accepts_of o;
       rejects = rejects_of o;
       exact = exact_of o;
+      text_first = text_first_of o;
       fault = fault_of o;
       files = files_of o;
       calls = calls_of o;
