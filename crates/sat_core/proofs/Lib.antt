@@ -1,0 +1,14 @@
+pub mod Calls
+pub mod Cells
+pub mod Closings
+pub mod Cores
+pub mod Fresh
+pub mod Lines
+pub mod Marks
+pub mod Quiet
+pub mod Models
+pub mod Sets
+pub mod Settled
+pub mod Shows
+pub mod Trails
+pub mod Waits

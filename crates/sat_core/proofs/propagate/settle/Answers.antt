@@ -1,0 +1,39 @@
+use Rattle.std.proofs.Common.{◌≡◌, ◌<◌, ◌≤◌, false, List, [], ◌∷◌, sym, ap, ◌∙◌}
+use Rattle.std.specs.Prelude.{All}
+use Rattle.cnf_core.specs.Literal.{Literal, negated}
+use Rattle.cnf_core.specs.Lrat.{is_false, open_lits}
+use Rattle.sat_core.specs.Trailed.{Trailed, clause_in}
+use Rattle.sat_core.proofs.Lines.{unit-within}
+use Rattle.sat_core.proofs.Sets.{negated-negated, open_lits-head}
+use Rattle.sat_core.proofs.Waits.{Propagates-push, quiet-unit}
+use Rattle.sat_core.proofs.propagate.settle.Goals as goal
+
+pub is_false-requires : goal.is_false-requires
+is_false-requires c =
+    let within : All (λ (l : Literal). l.variable ≤ c.args.trail.now.vars) c.get.result.now = rw c.get.ensures (c.requires.vars c.args.at [] c.requires.there) in
+    rw c.negated.ensures (unit-within c.args.trail.now.vars c.args.trail.now.falses c.get.result.now c.in-One.literal within c.in-One.ensures)
+
+pub push-requires-clause-within : goal.push-requires-clause-within
+push-requires-clause-within c =
+    let within : All (λ (l : Literal). l.variable ≤ c.args.trail.now.vars) c.get.result.now = rw c.get.ensures (c.requires.vars c.args.at [] c.requires.there) in
+    rw c.negated-in-One.ensures (unit-within c.args.trail.now.vars c.args.trail.now.falses c.get.result.now c.in-One.literal within c.in-One.ensures)
+
+pub returns-in_ok-push-in-One-clause-propagates : goal.returns-in_ok-push-in-One-clause-propagates
+returns-in_ok-push-in-One-clause-propagates c =
+    let t : Trailed = c.args.trail.now in
+    let l : Literal = c.in-One.literal in
+    let within : All (λ (m : Literal). m.variable ≤ t.vars) c.get.result.now = rw c.get.ensures (c.requires.vars c.args.at [] c.requires.there) in
+    let unit : open_lits t.falses (clause_in c.args.clauses.now c.args.at) ≡ l ∷ [] = rw (← c.get.ensures) c.in-One.ensures in
+    let low : l.variable ≤ t.vars = unit-within t.vars t.falses c.get.result.now l within c.in-One.ensures in
+    let positive : 0 < l.variable = rw c.negated-in-One.ensures at c.in_ok-push-in-One.ensures.positive in
+    let apart : is_false t.falses (negated l) ≡ false = ap (is_false t.falses) (sym c.negated.ensures) ∙ sym c.is_false.ensures ∙ c.if-is_false.false in
+    let apart_too : is_false t.falses (negated (negated l)) ≡ false = ap (is_false t.falses) (negated-negated l) ∙ open_lits-head t.falses (clause_in c.args.clauses.now c.args.at) l [] unit in
+    rw (c.in_ok-push-in-One.ensures.ok, c.negated-in-One.ensures) (Propagates-push c.args.clauses.now t l c.args.at c.requires.good c.requires.there unit low positive apart apart_too)
+
+pub returns-in_ok-push-in-One-clause-found : goal.returns-in_ok-push-in-One-clause-found
+returns-in_ok-push-in-One-clause-found c =
+    let t : Trailed = c.args.trail.now in
+    let l : Literal = c.in-One.literal in
+    let unit : open_lits t.falses (clause_in c.args.clauses.now c.args.at) ≡ l ∷ [] = rw (← c.get.ensures) c.in-One.ensures in
+    let apart : is_false t.falses (negated l) ≡ false = ap (is_false t.falses) (sym c.negated.ensures) ∙ sym c.is_false.ensures ∙ c.if-is_false.false in
+    rw (c.in_ok-push-in-One.ensures.ok, c.negated-in-One.ensures) (quiet-unit t.falses (clause_in c.args.clauses.now c.args.at) l unit apart)

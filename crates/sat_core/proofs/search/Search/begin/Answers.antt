@@ -1,0 +1,22 @@
+use Rattle.std.proofs.Common.{◌<◌, ◌≤◌, length, map, arith}
+use Rattle.std.proofs.lemmas.List.{take_all, length-map}
+use Rattle.cnf_core.specs.Literal.{negated}
+use Rattle.sat_core.proofs.Cells.{AreListed-none}
+use Rattle.sat_core.proofs.search.Search.begin.Goals as goal
+
+pub returns-clause-begun : goal.returns-clause-begun
+returns-clause-begun c =
+    let long = length-map c.args.assumptions.now negated in
+    let all : length (map negated c.args.assumptions.now) ≤ length c.args.assumptions.now = omega arith in
+    record {
+      good = c.in_ok-assume.ensures.good c.truncate.new.self;
+      long = rw c.in_ok-assume.ensures.assumed (omega arith);
+      settled = λ d low h e.
+          let inside : d < length (map negated c.args.assumptions.now) = rw c.in_ok-assume.ensures.assumed at h in
+          absurd (omega arith);
+      assumed = rw c.in_ok-assume.ensures.assumed (take_all (length c.args.assumptions.now) (map negated c.args.assumptions.now) all);
+      known = omega arith;
+      listed = rw c.clear.ensures (AreListed-none c.truncate.new.self);
+      done = omega arith;
+      awaits = λ k lt. absurd (omega (arith, lt));
+    }

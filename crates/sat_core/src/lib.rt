@@ -1,0 +1,18 @@
+//! A clause-learning solver over any sink of proof lines.
+#![tactic(auto)]
+
+mod analysis;
+mod answer;
+mod assignment;
+mod occurrences;
+mod order;
+mod pace;
+mod pick;
+mod propagate;
+mod search;
+mod solver;
+mod trail;
+mod values;
+
+pub use answer::{Answer, SolveError};
+pub use solver::{Solver, law_empty_core_refutes};

@@ -1,0 +1,294 @@
+//! The search, one step at a time.
+ghost use Rattle.std.specs.Prelude.{◌≡◌, ℕ, true, ◌+◌, ◌*◌, ◌<◌, ◌≤◌, [], ◌∷◌, ◌++◌, List, All, length, map, IfOk, OnOk, OnErr, MatchOption};
+ghost use Rattle.cnf_core.specs.Literal.{Literal, HaveVarsUpTo, negated};
+ghost use Rattle.cnf_core.specs.Lrat.{HasGoodVars};
+ghost use Rattle.sat_core.specs.Trailed.{Good, IsQuiet, IsConflict, IsFree, IsLastDecision, AreImplied, is_satisfied};
+
+use crate::analysis::{Shown, explain, explain_all, last_decision, place_to_go_on};
+use crate::assignment::Assignment;
+use crate::occurrences::Occurrences;
+use crate::order::Order;
+use crate::pace::Pace;
+use crate::pick::pick;
+use crate::propagate::{enter, propagate};
+use crate::trail::Trail;
+use crate::values::values;
+use cnf_core::{Clauses, Lit, Memory};
+use sqlite_items::Items;
+use std::alloc::Global;
+
+/// The clauses, those added before those learnt in the last call, the trail, and what finds its way in them.
+#[derive(Drop)]
+pub struct Search {
+    alloc: Global,
+    clauses: Clauses,
+    added: usize,
+    trail: Trail,
+    seen: Assignment,
+    /// The occurrences of literals in the first `known` clauses.
+    occurs: Occurrences,
+    known: usize,
+    /// How many literals of the trail are propagated.
+    done: usize,
+    order: Order,
+    pace: Pace,
+    ghost same_vars: { seen.vars ≡ trail.vars },
+    ghost ordered_vars: { order.vars ≡ trail.vars },
+    ghost all_places: { occurs.places ≡ 2 * trail.vars + 2 },
+    ghost within: { added ≤ length clauses },
+    ghost good_vars: { HaveVarsUpTo trail.vars clauses },
+}
+
+/// What a step has done.
+#[derive(Drop)]
+pub enum Step {
+    /// A clause with this number was learnt.
+    Learnt(u64, Shown),
+    /// A clause of negated assumptions follows, which would have this number.
+    Refuted(u64, Shown),
+    /// A literal was decided.
+    Decided,
+    /// Each clause has a true literal.
+    Satisfied,
+}
+
+/// Makes the assumptions true on an empty trail.
+fn assume(trail: &mut Trail, assumptions: &[Lit]) -> Result<(), Memory>
+    requires empty { trail.old.falses ≡ [] }
+    requires no_reasons { trail.old.reasons ≡ [] }
+    requires good_vars { HasGoodVars trail.old.vars assumptions.now }
+    ensures vars { trail.new.vars ≡ trail.old.vars }
+    ensures assumed { OnOk result (trail.new.falses ≡ map negated assumptions.now) }
+    ensures good { OnOk result ((clauses : List (List Literal)) → Good clauses trail.new) }
+{
+    for literal in assumptions {
+        trail.push(literal.negated(), None)?;
+    }
+    Ok(())
+}
+
+/// A free literal, by the order or else of a clause without a true literal, if there is such a clause.
+fn choose(clauses: &Clauses, order: &mut Order, trail: &Trail) -> Result<Option<Lit>, Memory>
+    requires vars { HaveVarsUpTo trail.now.vars clauses.now }
+    requires quiet { All (IsQuiet trail.now.falses) clauses.now }
+    ensures same_vars { order.new.vars ≡ order.old.vars }
+    ensures chosen { IfOk result (λ o. MatchOption o
+        (All (λ c. is_satisfied trail.now.falses c ≡ true) clauses.now)
+        (λ l. IsFree trail.now.vars trail.now.falses l)) }
+{
+    if let Some(literal) = order.next(trail)? {
+        return Ok(Some(literal));
+    }
+    Ok(pick(clauses, trail))
+}
+
+/// Notes that the seen variables took part in a conflict.
+fn bump_all(order: &mut Order, seen: &Assignment)
+    requires { seen.now.vars ≡ order.old.vars }
+    ensures { order.new.vars ≡ order.old.vars }
+{
+    for at in 0..seen.len() {
+        order.bump(seen.get(at).variable());
+    }
+    order.decay();
+}
+
+/// Notes that the literals of the trail from a place on are no longer false.
+fn release_all(order: &mut Order, trail: &Trail, from: usize) -> Result<(), Memory>
+    requires { trail.now.vars ≡ order.old.vars }
+    ensures { order.new.vars ≡ order.old.vars }
+{
+    for at in from..trail.len() {
+        order.release(trail.falsified(at))?;
+    }
+    Ok(())
+}
+
+impl Search {
+    ghost use Rattle.sat_core.specs.Answers.{valuation};
+    ghost use Rattle.sat_core.specs.Trailed.{Agree};
+    ghost use Rattle.sat_core.specs.Search.{added_in, vars_in, Searched, Learns, IsStep};
+
+    pub fn make(alloc: Global, vars: u32) -> Result<Self, Memory>
+        ensures vars { IfOk result (λ s. vars_in s ≡ vars) }
+        ensures added { IfOk result (λ s. added_in s ≡ []) }
+    {
+        Ok(Search {
+            alloc,
+            clauses: Clauses::new(alloc),
+            added: 0,
+            trail: Trail::make(alloc, vars)?,
+            seen: Assignment::make(alloc, vars)?,
+            occurs: Occurrences::make(alloc, vars)?,
+            known: 0,
+            done: 0,
+            order: Order::make(alloc, vars)?,
+            pace: Pace::new(),
+        })
+    }
+
+    /// Adds a clause, and gives its number.
+    pub fn add(&mut self, clause: &[Lit]) -> Result<u64, Memory>
+        requires { All (λ l. l.variable ≤ vars_in self.old) clause.now }
+        ensures vars { vars_in self.new ≡ vars_in self.old }
+        ensures number { IfOk result (λ id. id ≡ length (added_in self.new)) }
+        ensures ok { OnOk result (added_in self.new ≡ added_in self.old ++ clause.now ∷ []) }
+        ensures err { OnErr result (added_in self.new ≡ added_in self.old) }
+    {
+        self.clauses.truncate(self.added);
+        let number = self.clauses.push(clause)?;
+        self.added = self.clauses.len();
+        Ok(number)
+    }
+
+    /// Forgets what was learnt, and makes the assumptions true.
+    pub fn begin(&mut self, assumptions: &[Lit]) -> Result<(), Memory>
+        requires { HasGoodVars (vars_in self.old) assumptions.now }
+        ensures vars { vars_in self.new ≡ vars_in self.old }
+        ensures added { added_in self.new ≡ added_in self.old }
+        ensures clauses { self.new.clauses ≡ added_in self.old }
+        ensures begun { OnOk result (Searched assumptions.now self.new) }
+    {
+        self.clauses.truncate(self.added);
+        self.occurs.clear();
+        self.known = 0;
+        self.done = 0;
+        self.order.restart();
+        self.trail.cut(0);
+        assume(&mut self.trail, assumptions)?;
+        Ok(())
+    }
+
+    fn decide(&mut self, assumptions: &[Lit]) -> Result<Step, Memory>
+        requires searched { Searched assumptions.now self.old }
+        requires quiet { All (IsQuiet self.old.trail.falses) self.old.clauses }
+        ensures vars { vars_in self.new ≡ vars_in self.old }
+        ensures added { added_in self.new ≡ added_in self.old }
+        ensures searched { OnOk result (Searched assumptions.now self.new) }
+        ensures step { IfOk result (λ step. IsStep assumptions.now self.old self.new step) }
+    {
+        match choose(&self.clauses, &mut self.order, &self.trail)? {
+            None => Ok(Step::Satisfied),
+            Some(literal) => {
+                self.trail.push(literal.negated(), None)?;
+                Ok(Step::Decided)
+            }
+        }
+    }
+
+    fn learn(
+        &mut self,
+        assumptions: &[Lit],
+        conflict: usize,
+        decision: usize,
+    ) -> Result<Step, Memory>
+        requires searched { Searched assumptions.now self.old }
+        requires conflict { IsConflict self.old.clauses self.old.trail.falses conflict }
+        requires decision { IsLastDecision self.old.trail (length assumptions.now) decision }
+        ensures vars { vars_in self.new ≡ vars_in self.old }
+        ensures added { added_in self.new ≡ added_in self.old }
+        ensures searched { OnOk result (Searched assumptions.now self.new) }
+        ensures step { IfOk result (λ step. IsStep assumptions.now self.old self.new step) }
+    {
+        let explained = explain(
+            self.alloc,
+            &self.clauses,
+            &self.trail,
+            &mut self.seen,
+            conflict,
+            decision,
+        )?;
+        bump_all(&mut self.order, &self.seen);
+        let cut = place_to_go_on(
+            &self.clauses,
+            &self.trail,
+            &self.seen,
+            decision,
+            assumptions.len(),
+            explained.to,
+            self.pace.is_due(),
+        );
+        let number = self.clauses.push(&explained.shown.lits)?;
+        release_all(&mut self.order, &self.trail, cut)?;
+        self.trail.cut(cut);
+        self.done = cut;
+        Ok(Step::Learnt(number, explained.shown))
+    }
+
+    fn refute(&mut self, assumptions: &[Lit], conflict: usize) -> Result<Step, Memory>
+        requires searched { Searched assumptions.now self.old }
+        requires conflict { IsConflict self.old.clauses self.old.trail.falses conflict }
+        requires implied { AreImplied self.old.trail (length assumptions.now) }
+        ensures vars { vars_in self.new ≡ vars_in self.old }
+        ensures added { added_in self.new ≡ added_in self.old }
+        ensures searched { OnOk result (Searched assumptions.now self.new) }
+        ensures step { IfOk result (λ step. IsStep assumptions.now self.old self.new step) }
+    {
+        let floor = assumptions.len();
+        let shown = explain_all(
+            self.alloc,
+            &self.clauses,
+            &self.trail,
+            &mut self.seen,
+            conflict,
+            floor,
+        )?;
+        Ok(Step::Refuted(self.clauses.next(), shown))
+    }
+
+    fn propagate(&mut self, assumptions: &[Lit]) -> Result<Option<usize>, Memory>
+        requires searched { Searched assumptions.now self.old }
+        ensures vars { vars_in self.new ≡ vars_in self.old }
+        ensures added { added_in self.new ≡ added_in self.old }
+        ensures clauses { self.new.clauses ≡ self.old.clauses }
+        ensures searched { OnOk result (Searched assumptions.now self.new) }
+        ensures longer { length self.old.trail.falses ≤ length self.new.trail.falses }
+        ensures found { IfOk result (λ o. MatchOption o
+            (All (IsQuiet self.new.trail.falses) self.new.clauses)
+            (λ k. IsConflict self.new.clauses self.new.trail.falses k)) }
+    {
+        let entered = enter(
+            &self.clauses,
+            &mut self.occurs,
+            &mut self.order,
+            &mut self.trail,
+            self.known,
+        )?;
+        if let Some(conflict) = entered {
+            return Ok(Some(conflict));
+        }
+        self.known = self.clauses.len();
+        let found = propagate(&self.clauses, &self.occurs, &mut self.trail, self.done)?;
+        if let Some(conflict) = found {
+            return Ok(Some(conflict));
+        }
+        self.done = self.trail.len();
+        Ok(None)
+    }
+
+    /// The values, that of variable 1 first.
+    pub fn values(&self) -> Result<Items<bool>, Memory>
+        ensures long { IfOk result (λ v. length v ≡ vars_in self.now) }
+        ensures values { IfOk result (λ v. Agree (vars_in self.now) self.now.trail.falses
+            (valuation v)) }
+    {
+        values(self.alloc, &self.trail)
+    }
+
+    /// Propagates, and then decides or learns from the conflict.
+    pub fn step(&mut self, assumptions: &[Lit]) -> Result<Step, Memory>
+        requires { Searched assumptions.now self.old }
+        ensures vars { vars_in self.new ≡ vars_in self.old }
+        ensures added { added_in self.new ≡ added_in self.old }
+        ensures searched { OnOk result (Searched assumptions.now self.new) }
+        ensures step { IfOk result (λ step. IsStep assumptions.now self.old self.new step) }
+    {
+        let Some(conflict) = self.propagate(assumptions)? else {
+            return self.decide(assumptions);
+        };
+        match last_decision(&self.clauses, &self.trail, assumptions.len()) {
+            None => self.refute(assumptions, conflict),
+            Some(decision) => self.learn(assumptions, conflict, decision),
+        }
+    }
+}

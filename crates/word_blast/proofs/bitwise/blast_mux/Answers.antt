@@ -1,0 +1,8 @@
+use Rattle.word_blast.proofs.Combinators.{recursion, word_at}
+use Rattle.word_blast.proofs.OperatorLaws.{choice_gives}
+use Rattle.word_blast.proofs.bitwise.blast_mux.Goals as goal
+
+pub returns-clause-meaning : goal.returns-clause-meaning
+returns-clause-meaning c =
+    let e = c.in_ok-bits.ensures in
+    word_at e.exact (choice_gives c.args.aig.now c.args.a.now c.args.b.now e.was_well_formed (recursion c.args.aig.now c.args.a.now c.requires.a_exists) (recursion c.args.aig.now c.args.b.now c.requires.b_exists) c.requires.widths c.args.c c.requires.c_exists)
