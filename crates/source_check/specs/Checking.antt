@@ -19,7 +19,7 @@ use Rattle.source_check.specs.declared.points.Front.{Front}
 use Rattle.source_check.specs.Built.{IsBuilt}
 use Rattle.source_check.specs.Flat.{IsDesignOf, first_place}
 use Rattle.source_check.specs.Points.{points_of}
-use Rattle.source_check.specs.Judging.{Judges}
+use Rattle.source_check.specs.Judging.{Judges, AreTrue}
 
 -- the text is refused for this reason, which isn't want of memory
 abbrev pub TextRefused : List ℕ → TextError → Type 0
@@ -56,6 +56,10 @@ CheckAnswers text cert (Err (WrongPoint line)) = ReadAndJudged text cert (Err (W
 CheckAnswers text cert (Err (Missing point)) = ReadAndJudged text cert (Err (Missing point))
 CheckAnswers text cert (Err (NotHit point)) = ReadAndJudged text cert (Err (NotHit point))
 CheckAnswers text cert (Err Memory) = Unit {0}
+
+-- each of the claims is true of the text, whose tree and certificate these are
+abbrev pub ClaimsAreTrue : List ℕ → List ℕ → List Claim → Type 0
+ClaimsAreTrue text cert claims = (tree : Tree) × (c : Cert) × TextAnswers text (Ok tree) × CertAnswers cert (Ok c) × AreTrue tree c claims
 
 -- the answer of the front: the legal design of the text and its points; or why there is none; nothing where memory ran out
 abbrev pub FrontAnswers : List ℕ → Setup → Result Front SourceError → Type 0

@@ -59,7 +59,7 @@ is_reg None = false
 is_reg (Some Wire) = false
 is_reg (Some Reg) = true
 
--- the bits from number `bit` on: one for each port, with no starting value
+-- the bits: one for each port, with no starting value
 abbrev pub bits_of : List ℕ → List Port → List BitInfo
 bits_of path ports = map (λ p. record { name = in_scope path p.name.name; start = None }) ports
 

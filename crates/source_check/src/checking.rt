@@ -1,6 +1,7 @@
 // From the bytes of a text and of a certificate to claims that are true.
 
-ghost use Rattle.source_check.specs.Checking.{CheckAnswers, FrontAnswers};
+ghost use Rattle.std.specs.Prelude.{IfOk};
+ghost use Rattle.source_check.specs.Checking.{CheckAnswers, ClaimsAreTrue, FrontAnswers};
 
 use crate::error::{CheckError, SourceError};
 use crate::judging::judge;
@@ -15,7 +16,8 @@ use std::alloc::Global;
 /// The claims of a certificate for a text, where it is accepted; each is true. Otherwise the first fault:
 /// of the text's tokens and grammar, of the certificate's grammar, of the text's design, of the claims in order.
 pub fn check(alloc: Global, text: &[u8], cert: &[u8]) -> Result<Items<Claim>, CheckError>
-    ensures { CheckAnswers text.now cert.now result }
+    ensures answers { CheckAnswers text.now cert.now result }
+    ensures true_claims { IfOk result (λ claims. ClaimsAreTrue text.now cert.now claims) }
 {
     let tree = tree_of(alloc, text)?;
     let cert = read_cert(alloc, cert)?;

@@ -12,7 +12,6 @@ use Rattle.cert_text.specs.Answers.{CertAnswers}
 use Rattle.source_check.specs.declared.error.CheckError.{CheckError}
 use Rattle.source_check.specs.Checking.{ReadAndJudged}
 use Rattle.source_check.specs.Judging.{Judges}
-use Rattle.unr_engine.specs.declared.TheConstants.{SOURCE_MOST}
 use Rattle.unr_engine.specs.declared.stop.Refusal.TheVariants as refusal
 use Rattle.unr_engine.specs.Content.{SpellNothing, CheckRefuses, Answers}
 use Rattle.unr_engine.specs.Report.{report}
@@ -20,10 +19,10 @@ use Rattle.unr_engine.specs.Steps.{Fetched}
 use Rattle.unr_engine.specs.Words.{Check_files}
 use Rattle.unr_engine.proofs.Runs.{SoFar, begun, fetched}
 
-pub file_loaded : (file cert : List ℕ) (text : Vec ℕ Global) (desk desk' : DeskState) → Fetched file SOURCE_MOST (Ok text) desk desk' → SoFar (Check_files file cert) (text.items ∷ []) desk desk'
-file_loaded file cert text desk desk' f = fetched (Check_files file cert) [] file SOURCE_MOST text desk desk desk' (begun (Check_files file cert) desk) refl f
+pub file_loaded : (file cert : List ℕ) (text : Vec ℕ Global) (desk desk' : DeskState) → Fetched file 4194305 (Ok text) desk desk' → SoFar (Check_files file cert) (text.items ∷ []) desk desk'
+file_loaded file cert text desk desk' f = fetched (Check_files file cert) [] file 4194305 text desk desk desk' (begun (Check_files file cert) desk) refl f
 
-pub both_loaded : (file cert : List ℕ) (text spelling : Vec ℕ Global) (desk desk' desk'' : DeskState) → Fetched file SOURCE_MOST (Ok text) desk desk' → Fetched cert (2 ^ 64 - 1) (Ok spelling) desk' desk'' → SoFar (Check_files file cert) (text.items ∷ spelling.items ∷ []) desk desk''
+pub both_loaded : (file cert : List ℕ) (text spelling : Vec ℕ Global) (desk desk' desk'' : DeskState) → Fetched file 4194305 (Ok text) desk desk' → Fetched cert (2 ^ 64 - 1) (Ok spelling) desk' desk'' → SoFar (Check_files file cert) (text.items ∷ spelling.items ∷ []) desk desk''
 both_loaded file cert text spelling desk desk' desk'' f g =
     fetched (Check_files file cert) (text.items ∷ []) cert (2 ^ 64 - 1) spelling desk desk' desk'' (file_loaded file cert text desk desk' f) refl g
 

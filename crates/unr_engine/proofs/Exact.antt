@@ -29,7 +29,6 @@ use Rattle.source_check.specs.Checking.{ReadAndJudged}
 use Rattle.source_check.specs.Judging.{Judges, Accepted, FirstFault, Fails}
 use Rattle.source_check.specs.Points.{points_of}
 use Rattle.unr_engine.specs.Statuses.{text_status, cert_status, check_status, refusal_status, status_of}
-use Rattle.unr_engine.specs.declared.TheConstants.{SOURCE_MOST}
 use Rattle.unr_engine.specs.declared.stop.Refusal.{Refusal}
 use Rattle.unr_engine.specs.declared.stop.Refusal.TheVariants as refusal
 use Rattle.unr_engine.specs.Words.{Check_files, Names}
@@ -176,19 +175,19 @@ one_front load files x y a b =
 refusal_deserved : (file cert text spelling : List ℕ) (loaded : List (List ℕ)) (refusal : Refusal) (files : List (List ℕ × List ℕ)) → AreLoaded (loads_of (Check_files file cert)) (text ∷ spelling ∷ []) files → AreLoaded (loads_of (Check_files file cert)) loaded files → CheckRefuses loaded refusal → Deserve text spelling (refusal_status refusal)
 refusal_deserved file cert text spelling loaded (refusal.Text error) files have are r =
     let are' = subst (λ l. AreLoaded (loads_of (Check_files file cert)) l files) r.1 are in
-    inl (error, text_so text r.0 (Err error) (one_front (file, SOURCE_MOST) files r.0 text are'.0 have.0) r.2, refl)
+    inl (error, text_so text r.0 (Err error) (one_front (file, 4194305) files r.0 text are'.0 have.0) r.2, refl)
 refusal_deserved file cert text spelling loaded (refusal.Cert error) files have are r =
     let are' = subst (λ l. AreLoaded (loads_of (Check_files file cert)) l files) r.2 are in
-    inr (inl (error, nothing_so text r.0 spelling r.1 error (one_front (file, SOURCE_MOST) files r.0 text are'.0 have.0) (one_front (cert, 2 ^ 64 - 1) files r.1 spelling are'.1.0 have.1.0) r.3, refl))
+    inr (inl (error, nothing_so text r.0 spelling r.1 error (one_front (file, 4194305) files r.0 text are'.0 have.0) (one_front (cert, 2 ^ 64 - 1) files r.1 spelling are'.1.0 have.1.0) r.3, refl))
 refusal_deserved file cert text spelling loaded (refusal.Check error) files have are r =
     let are' = subst (λ l. AreLoaded (loads_of (Check_files file cert)) l files) r.2 are in
-    inr (inr (Err error, both_so text r.0 spelling r.1 (Err error) (one_front (file, SOURCE_MOST) files r.0 text are'.0 have.0) (one_front (cert, 2 ^ 64 - 1) files r.1 spelling are'.1.0 have.1.0) r.3, refl))
+    inr (inr (Err error, both_so text r.0 spelling r.1 (Err error) (one_front (file, 4194305) files r.0 text are'.0 have.0) (one_front (cert, 2 ^ 64 - 1) files r.1 spelling are'.1.0 have.1.0) r.3, refl))
 
 -- and its report
 report_deserved : (file cert text spelling put : List ℕ) (loaded : List (List ℕ)) (files : List (List ℕ × List ℕ)) → AreLoaded (loads_of (Check_files file cert)) (text ∷ spelling ∷ []) files → AreLoaded (loads_of (Check_files file cert)) loaded files → Answers (Check_files file cert) loaded put → Deserve text spelling 0
 report_deserved file cert text spelling put loaded files have are r =
     let are' = subst (λ l. AreLoaded (loads_of (Check_files file cert)) l files) r.2 are in
-    inr (inr (Ok r.3.claims, both_so text r.0 spelling r.1 (Ok r.3.claims) (one_front (file, SOURCE_MOST) files r.0 text are'.0 have.0) (one_front (cert, 2 ^ 64 - 1) files r.1 spelling are'.1.0 have.1.0) r.3.accepted, refl))
+    inr (inr (Ok r.3.claims, both_so text r.0 spelling r.1 (Ok r.3.claims) (one_front (file, 4194305) files r.0 text are'.0 have.0) (one_front (cert, 2 ^ 64 - 1) files r.1 spelling are'.1.0 have.1.0) r.3.accepted, refl))
 
 -- where no count rose, the status is the one deserved
 ran_exact : (file cert text spelling : List ℕ) (status deserved : ℕ) (end : End) (known : Told) (desk desk' : DeskState) (out out' : SinkState) → Ran (Check_files file cert) end desk desk' out out' → status ≡ status_of end
@@ -213,23 +212,23 @@ exact_of {words} {status} {desk} {desk'} {out} {out'} o file cert text spelling 
 tree_or_none : (text text' : List ℕ) (tree : Tree) (status : ℕ) (error : TextError) → text' ≡ text → TextAnswers text' (Ok tree) → TextAnswers text (Err error) → Agree status (text_status error)
 tree_or_none text text' tree status error same has refused = inr (inr (text_or_none text tree error (text_so text text' (Ok tree) same has) refused))
 
-refusal_first : (file cert text : List ℕ) (loaded : List (List ℕ)) (error : TextError) (refusal : Refusal) (files : List (List ℕ × List ℕ)) → IsFrontOfFile (file, SOURCE_MOST) files text → TextAnswers text (Err error) → AreLoaded (loads_of (Check_files file cert)) loaded files → CheckRefuses loaded refusal → Agree (refusal_status refusal) (text_status error)
+refusal_first : (file cert text : List ℕ) (loaded : List (List ℕ)) (error : TextError) (refusal : Refusal) (files : List (List ℕ × List ℕ)) → IsFrontOfFile (file, 4194305) files text → TextAnswers text (Err error) → AreLoaded (loads_of (Check_files file cert)) loaded files → CheckRefuses loaded refusal → Agree (refusal_status refusal) (text_status error)
 refusal_first file cert text loaded error (refusal.Text other) files have refused are r =
     same_or_memory 4 (text_status other) (text_status error) (text_four other) (text_four error)
 refusal_first file cert text loaded error (refusal.Cert other) files have refused are r =
     let are' = subst (λ l. AreLoaded (loads_of (Check_files file cert)) l files) r.2 are in
-    tree_or_none text r.0 r.3.tree (cert_status other) error (one_front (file, SOURCE_MOST) files r.0 text are'.0 have) r.3.text_of_tree refused
+    tree_or_none text r.0 r.3.tree (cert_status other) error (one_front (file, 4194305) files r.0 text are'.0 have) r.3.text_of_tree refused
 refusal_first file cert text loaded error (refusal.Check other) files have refused are r =
     let are' = subst (λ l. AreLoaded (loads_of (Check_files file cert)) l files) r.2 are in
-    tree_or_none text r.0 r.3.0 (check_status other) error (one_front (file, SOURCE_MOST) files r.0 text are'.0 have) r.3.2 refused
+    tree_or_none text r.0 r.3.0 (check_status other) error (one_front (file, 4194305) files r.0 text are'.0 have) r.3.2 refused
 
-report_first : (file cert text put : List ℕ) (loaded : List (List ℕ)) (error : TextError) (files : List (List ℕ × List ℕ)) → IsFrontOfFile (file, SOURCE_MOST) files text → TextAnswers text (Err error) → AreLoaded (loads_of (Check_files file cert)) loaded files → Answers (Check_files file cert) loaded put → Agree 0 (text_status error)
+report_first : (file cert text put : List ℕ) (loaded : List (List ℕ)) (error : TextError) (files : List (List ℕ × List ℕ)) → IsFrontOfFile (file, 4194305) files text → TextAnswers text (Err error) → AreLoaded (loads_of (Check_files file cert)) loaded files → Answers (Check_files file cert) loaded put → Agree 0 (text_status error)
 report_first file cert text put loaded error files have refused are r =
     let are' = subst (λ l. AreLoaded (loads_of (Check_files file cert)) l files) r.2 are in
-    tree_or_none text r.0 r.3.accepted.0 0 error (one_front (file, SOURCE_MOST) files r.0 text are'.0 have) r.3.accepted.2 refused
+    tree_or_none text r.0 r.3.accepted.0 0 error (one_front (file, 4194305) files r.0 text are'.0 have) r.3.accepted.2 refused
 
 ran_text_first : (file cert text : List ℕ) (status : ℕ) (error : TextError) (end : End) (known : Told) (desk desk' : DeskState) (out out' : SinkState) → Ran (Check_files file cert) end desk desk' out out' → status ≡ status_of end
-    → desk.told ≡ Some known → IsFrontOfFile (file, SOURCE_MOST) known.files text → TextAnswers text (Err error)
+    → desk.told ≡ Some known → IsFrontOfFile (file, 4194305) known.files text → TextAnswers text (Err error)
     → (Rose desk.faults desk'.faults → ⊥) → (Rose out.faults out'.faults → ⊥) → Agree status (text_status error)
 ran_text_first file cert text status error Done known desk desk' out out' ran e told have refused desk_well out_well =
     let are : AreTold (Some known) (Check_files file cert) ran.loaded = subst (λ t. AreTold t (Check_files file cert) ran.loaded) told (told_of (Check_files file cert) ran.loaded [] desk.told desk'.told ran.desk_kept) in

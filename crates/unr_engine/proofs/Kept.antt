@@ -23,7 +23,7 @@ use Rattle.unr_engine.specs.Ends.{End, Done, Stopped, Not_words, Fault_at, Fault
 use Rattle.unr_engine.specs.Statuses.{parse_status, text_status, cert_status, source_status, check_status, refusal_status, status_of}
 use Rattle.unr_engine.specs.Messages.{message_of}
 use Rattle.unr_engine.specs.Outcome.{IsFrontOf, next_load, load_calls, loads_of, failed_call, DeskKept, PutsFront, HasReason, Ran, Ended, Says, Outcome}
-use Rattle.unr_engine.specs.Promises.{AreTold, Accepts, Rejects, calls_for, MakesCalls, PutsPart, FilesStay}
+use Rattle.unr_engine.specs.Promises.{AreTold, Accepts, Rejects, calls_for, MakesCalls, Blames, PutsPart, FilesStay}
 use Rattle.unr_engine.proofs.Putting.{appended_nothing}
 use Rattle.unr_engine.proofs.Runs.{tells_so}
 use Rattle.source_check.proofs.Truth.{true_where_judged}
@@ -211,6 +211,14 @@ all_at_end command loaded status (Stopped Fault_of_output) piece desk desk' out 
 all_at_end command loaded status (Stopped Out_of_memory) piece desk desk' out out' reason e zero_status = absurd (omega arith)
 all_at_end command loaded status (Stopped (Not_taken refusal)) piece desk desk' out out' reason e zero_status = absurd ((apart (refusal_status refusal) (of_refusal refusal)).0 (sym e ∙ zero_status))
 
+each_gave : (calls : List (Kind × List ℕ)) (end : End) → (calls ++ failed_call end ≡ calls) ⊎ ((name : List ℕ) × (calls ++ failed_call end ≡ calls ++ (Load, name) ∷ []))
+each_gave calls Done = inl (append-nil calls)
+each_gave calls (Stopped Not_words) = inl (append-nil calls)
+each_gave calls (Stopped (Fault_at name)) = inr (name, refl)
+each_gave calls (Stopped Fault_of_output) = inl (append-nil calls)
+each_gave calls (Stopped Out_of_memory) = inl (append-nil calls)
+each_gave calls (Stopped (Not_taken refusal)) = inl (append-nil calls)
+
 pub calls_of : {words : List (List ℕ)} {status : ℕ} {desk desk' : DeskState} {out out' err err' : SinkState} → Outcome words status desk desk' out out' err err' → (command : Command) → Names words command → Tells desk.told desk'.told (MakesCalls command status)
 calls_of {words} {status} {desk} {desk'} {out} {out'} o command names =
     let ran = ran_of words command o.end desk desk' out out' o.ended names in
@@ -219,7 +227,24 @@ calls_of {words} {status} {desk} {desk'} {out} {out'} o command names =
       calls = k.calls;
       front = front_at_end command ran.loaded o.end ran.piece desk desk' out out' ran.reason;
       whole = all_at_end command ran.loaded status o.end ran.piece desk desk' out out' ran.reason o.status_is;
+      loaded = ran.loaded;
+      given = k.bytes;
+      failed = each_gave (load_calls (loads_of command) ran.loaded) o.end;
     })
+
+-- the fault
+ran_blames : (command : Command) (status : ℕ) (end : End) (desk desk' : DeskState) (out out' err err' : SinkState) → Ran command end desk desk' out out' → status ≡ status_of end → Says (message_of end) err err' → status ≡ 3 → Blames command desk desk' out out' err err'
+ran_blames command status Done desk desk' out out' err err' ran e says is = absurd (omega arith)
+ran_blames command status (Stopped Not_words) desk desk' out out' err err' ran e says is = absurd ran.reason
+ran_blames command status (Stopped (Fault_at name)) desk desk' out out' err err' ran e says is =
+    inl (ran.loaded, name, ran.reason.0.0, told_of command ran.loaded (failed_call (Stopped (Fault_at name))) desk.told desk'.told ran.desk_kept, ran.reason.0.1, ran.reason.1, says)
+ran_blames command status (Stopped Fault_of_output) desk desk' out out' err err' ran e says is = inr (ran.reason.1, says)
+ran_blames command status (Stopped Out_of_memory) desk desk' out out' err err' ran e says is = absurd (omega arith)
+ran_blames command status (Stopped (Not_taken refusal)) desk desk' out out' err err' ran e says is = absurd ((apart (refusal_status refusal) (of_refusal refusal)).2 (sym e ∙ is))
+
+pub blames_of : {words : List (List ℕ)} {status : ℕ} {desk desk' : DeskState} {out out' err err' : SinkState} → Outcome words status desk desk' out out' err err' → (command : Command) → Names words command → status ≡ 3 → Blames command desk desk' out out' err err'
+blames_of {words} {status} {desk} {desk'} {out} {out'} {err} {err'} o command names is =
+    ran_blames command status o.end desk desk' out out' err err' (ran_of words command o.end desk desk' out out' o.ended names) o.status_is o.says is
 
 -- what is put out
 ran_silent : (command : Command) (status : ℕ) (end : End) (desk desk' : DeskState) (out out' : SinkState) → Ran command end desk desk' out out' → status ≡ status_of end → (status ≡ 4) ⊎ (status ≡ 5) → out'.written ≡ out.written

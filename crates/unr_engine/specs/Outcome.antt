@@ -4,7 +4,6 @@ use Rattle.unr_io.specs.declared.desk.Kind.{Kind}
 use Rattle.unr_io.specs.declared.desk.Kind.TheVariants.{Load}
 use Rattle.unr_io.specs.Desk.{DeskState, Told, Tells, Rose, file_at}
 use Rattle.unr_io.specs.Sink.{SinkState, appended}
-use Rattle.unr_engine.specs.declared.TheConstants.{SOURCE_MOST}
 use Rattle.unr_engine.specs.Words.{Command, Check_files, Names, NamesNothing}
 use Rattle.unr_engine.specs.Content.{Answers, Refuses}
 use Rattle.unr_engine.specs.Ends.{End, Done, Stopped, Not_words, Fault_at, Fault_of_output, Out_of_memory, Not_taken}
@@ -21,7 +20,7 @@ IsFrontOfFile load files bytes = (file : List ℕ) × (file_at files load.0 ≡ 
 
 -- What a command loads, in order: a file's name, and how many bytes of it at most.
 abbrev pub loads_of : Command → List (List ℕ × ℕ)
-loads_of (Check_files file cert) = (file, SOURCE_MOST) ∷ (cert, 2 ^ 64 - 1) ∷ []
+loads_of (Check_files file cert) = (file, 4194305) ∷ (cert, 2 ^ 64 - 1) ∷ []
 
 -- The bytes that were loaded are those of the files.
 abbrev pub AreLoaded : List (List ℕ × ℕ) → List (List ℕ) → List (List ℕ × List ℕ) → Type 0

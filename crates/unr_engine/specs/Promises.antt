@@ -2,7 +2,7 @@
 use Rattle.std.specs.Prelude.{◌≡◌, ◌⊎◌, ℕ, List, [], ◌∷◌, ◌++◌, Option, Some, None, Result, Ok, Err, ⊤}
 use Rattle.unr_io.specs.declared.desk.Kind.{Kind}
 use Rattle.unr_io.specs.declared.desk.Kind.TheVariants.{Load}
-use Rattle.unr_io.specs.Desk.{DeskState, Told}
+use Rattle.unr_io.specs.Desk.{DeskState, Told, Rose}
 use Rattle.unr_io.specs.Sink.{SinkState, appended}
 use Rattle.vlog_items.specs.declared.error.TextError.{TextError}
 use Rattle.vlog_items.specs.Answers.{TextAnswers}
@@ -11,14 +11,14 @@ use Rattle.cert_text.specs.declared.claim.Claim.{Claim}
 use Rattle.source_check.specs.declared.error.CheckError.{CheckError}
 use Rattle.source_check.specs.Checking.{ReadAndJudged}
 use Rattle.source_check.specs.Judging.{AreTrue}
-use Rattle.unr_engine.specs.declared.TheConstants.{SOURCE_MOST}
 use Rattle.unr_engine.specs.declared.stop.Refusal.{Refusal}
 use Rattle.unr_engine.specs.Words.{Command, Check_files}
 use Rattle.unr_engine.specs.Report.{report}
 use Rattle.unr_engine.specs.Content.{SpellNothing, CheckRefuses}
 use Rattle.unr_engine.specs.Statuses.{text_status, cert_status, check_status, refusal_status}
-use Rattle.unr_engine.specs.Messages.{refusal_message}
-use Rattle.unr_engine.specs.Outcome.{IsFrontOfFile, AreLoaded, IsFrontOf, PutsFront, Says, loads_of}
+use Rattle.unr_engine.specs.Ends.{Fault_at, Fault_of_output}
+use Rattle.unr_engine.specs.Messages.{why_message, refusal_message}
+use Rattle.unr_engine.specs.Outcome.{IsFrontOfFile, AreLoaded, IsFrontOf, PutsFront, Says, next_load, load_calls, loads_of}
 
 -- These bytes are the files', where the desk tells its files.
 abbrev pub AreTold : Option Told → Command → List (List ℕ) → Type 0
@@ -46,7 +46,7 @@ pub record Rejects (file cert : List ℕ) (status : ℕ) (desk : DeskState) (err
 
 -- FILE has these bytes, on a desk that tells its files.
 abbrev pub HasText : Option Told → List ℕ → List ℕ → Type 0
-HasText told file text = (known : Told) × (told ≡ Some known) × IsFrontOfFile (file, SOURCE_MOST) known.files text
+HasText told file text = (known : Told) × (told ≡ Some known) × IsFrontOfFile (file, 4194305) known.files text
 
 -- FILE and CERT have these bytes, on a desk that tells its files.
 abbrev pub HaveBytes : Option Told → List ℕ → List ℕ → List ℕ → List ℕ → Type 0
@@ -73,12 +73,22 @@ abbrev pub calls_for : List (List ℕ × ℕ) → List (Kind × List ℕ)
 calls_for [] = []
 calls_for (load ∷ loads) = (Load, load.0) ∷ calls_for loads
 
--- The calls that a command makes: the first of those that it names, and all of them where it is done.
+-- The calls that a command makes: the first of those that it names, and all of them where it is done. Each gave its file's bytes, but for at most one that failed, the last.
 pub record MakesCalls (command : Command) (status : ℕ) (was is : Told) : Type 0 where
   pub made : List (Kind × List ℕ)
   pub calls : is.calls ≡ was.calls ++ made
   pub front : IsFrontOf made (calls_for (loads_of command))
   pub whole : status ≡ 0 → made ≡ calls_for (loads_of command)
+  pub loaded : List (List ℕ)
+  pub given : AreLoaded (loads_of command) loaded was.files
+  pub failed : (made ≡ load_calls (loads_of command) loaded) ⊎ ((name : List ℕ) × (made ≡ load_calls (loads_of command) loaded ++ (Load, name) ∷ []))
+
+-- The fault of a run, and its message: the desk failed at the load that came next, or the output failed.
+abbrev pub Blames : Command → DeskState → DeskState → SinkState → SinkState → SinkState → SinkState → Type 0
+Blames command desk desk' out out' err err' =
+    ((loaded : List (List ℕ)) × (name : List ℕ) × (most : ℕ) × AreTold desk.told command loaded × (next_load (loads_of command) loaded ≡ Some (name, most))
+    × Rose desk.faults desk'.faults × Says (why_message (Fault_at name)) err err')
+    ⊎ (Rose out.faults out'.faults × Says (why_message Fault_of_output) err err')
 
 -- A front of the text that the command puts out, or nothing.
 pub record PutsPart (command : Command) (desk : DeskState) (out out' : SinkState) : Type 0 where

@@ -6,7 +6,7 @@ ghost use Rattle.vlog_items.specs.Answers.{TextAnswers};
 ghost use Rattle.unr_engine.specs.Ends.{End, end_of};
 ghost use Rattle.unr_engine.specs.Messages.{message_of};
 ghost use Rattle.unr_engine.specs.Outcome.{Ran, Ended, Says, Outcome};
-ghost use Rattle.unr_engine.specs.Promises.{Accepts, Rejects, HasText, HaveBytes, Deserve, Agree, MakesCalls, PutsPart, FilesStay};
+ghost use Rattle.unr_engine.specs.Promises.{Accepts, Rejects, HasText, HaveBytes, Deserve, Agree, MakesCalls, Blames, PutsPart, FilesStay};
 ghost use Rattle.unr_engine.specs.Requests.{meaning};
 ghost use Rattle.unr_engine.specs.Statuses.{text_status, status_of};
 ghost use Rattle.unr_engine.specs.Words.{Command, Check_files, Names, NamesNothing, texts};
@@ -84,13 +84,16 @@ pub fn run<D: Desk, O: Sink, E: Sink>(
     // Where no count rose, the status is the one that the bytes deserve, or that of want of memory.
     ensures exact { (file cert text spelling : List ℕ) (deserved : ℕ) → Names (texts words.now) (Check_files file cert) → HaveBytes (D.state desk.old).told file cert text spelling → Deserve text spelling deserved → (Rose (D.state desk.old).faults (D.state desk.new).faults → ⊥) → (Rose (O.state out.old).faults (O.state out.new).faults → ⊥) → Agree result deserved }
 
-    // Where FILE's text is refused that is so whatever CERT is, since CERT is not asked for then.
+    // Where FILE's text is refused, that decides, whatever CERT is.
     ensures text_first { (file cert text : List ℕ) (error : TextError) → Names (texts words.now) (Check_files file cert) → HasText (D.state desk.old).told file text → TextAnswers text (Err error) → (Rose (D.state desk.old).faults (D.state desk.new).faults → ⊥) → (Rose (O.state out.old).faults (O.state out.new).faults → ⊥) → Agree result (text_status error) }
 
     // Status 3 comes only where the desk or the output failed in this call.
     ensures fault { result ≡ 3 → Rose (D.state desk.old).faults (D.state desk.new).faults ⊎ Rose (O.state out.old).faults (O.state out.new).faults }
 
-    // No file is written, and the desk is asked for what the words name alone, in order.
+    // Its message names the file of the load that failed, or the output.
+    ensures blames { (command : Command) → Names (texts words.now) command → result ≡ 3 → Blames command (D.state desk.old) (D.state desk.new) (O.state out.old) (O.state out.new) (E.state err.old) (E.state err.new) }
+
+    // No file is written, and the desk is asked for what the words name alone, in order, and for nothing after a load that failed.
     ensures files { Tells (D.state desk.old).told (D.state desk.new).told FilesStay }
     ensures calls { (command : Command) → Names (texts words.now) command → Tells (D.state desk.old).told (D.state desk.new).told (MakesCalls command result) }
 
@@ -102,7 +105,7 @@ pub fn run<D: Desk, O: Sink, E: Sink>(
     ensures message { (end : End) × (result ≡ status_of end) × Says (message_of end) (E.state err.old) (E.state err.new) }
     ensures quiet { result ≡ 0 → (E.state err.new).written ≡ (E.state err.old).written }
 
-    // And all of it at once, by the way that the run ends.
+    // And how the run ends, from which the clauses above follow.
     ensures outcome { Outcome (texts words.now) result (D.state desk.old) (D.state desk.new) (O.state out.old) (O.state out.new) (E.state err.old) (E.state err.new) }
 {
     let ended = obey(alloc, words, desk, out);

@@ -1,6 +1,5 @@
 use Rattle.std.proofs.Common.{[], ◌∷◌, refl, ap, ◌∙◌}
 use Rattle.std.proofs.lemmas.Result.{err_from_is_err_and}
-use Rattle.unr_engine.specs.declared.TheConstants.{SOURCE_MOST}
 use Rattle.unr_engine.specs.declared.stop.Refusal.TheVariants as refusal
 use Rattle.unr_engine.specs.Ends.{why_of, Out_of_memory, Not_taken}
 use Rattle.unr_engine.specs.Words.{Check_files}
@@ -13,7 +12,7 @@ returns-in_err-text g c =
     let command = Check_files c.args.file.now c.args.cert.now in
     let p = err_from_is_err_and c.from_residual.result c.from_residual.ensures.1 in
     handed_on command c.from_residual.result p.0 (why_of c.in_err-text.field-0.0) _ _ _ _ p.1 (ap why_of p.2)
-    (fetch_stopped command [] c.args.file.now SOURCE_MOST (why_of c.in_err-text.field-0.0) _ (g.D.Desk.state c.args.desk.now) (g.D.Desk.state c.fetch.new.desk) (g.O.Sink.state c.args.out.now) (begun command (g.D.Desk.state c.args.desk.now)) refl c.in_err-text.ensures.told c.in_err-text.ensures.cause)
+    (fetch_stopped command [] c.args.file.now 4194305 (why_of c.in_err-text.field-0.0) _ (g.D.Desk.state c.args.desk.now) (g.D.Desk.state c.fetch.new.desk) (g.O.Sink.state c.args.out.now) (begun command (g.D.Desk.state c.args.desk.now)) refl c.in_err-text.ensures.told c.in_err-text.ensures.cause)
 
 pub returns-in_err-tree : goal.returns-in_err-tree
 returns-in_err-tree g c =

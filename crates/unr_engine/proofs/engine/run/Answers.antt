@@ -2,7 +2,7 @@ use Rattle.unr_engine.specs.Ends.{end_of}
 use Rattle.unr_engine.specs.Outcome.{Outcome}
 use Rattle.unr_engine.specs.Words.{texts}
 use Rattle.unr_engine.proofs.Exact.{exact_of, text_first_of}
-use Rattle.unr_engine.proofs.Kept.{words_of, untouched_of, accepts_of, rejects_of, fault_of, files_of, calls_of, silent_of, part_of, quiet_of}
+use Rattle.unr_engine.proofs.Kept.{words_of, untouched_of, accepts_of, rejects_of, fault_of, blames_of, files_of, calls_of, silent_of, part_of, quiet_of}
 use Rattle.unr_engine.proofs.engine.run.Goals as goal
 
 pub returns : goal.returns
@@ -21,6 +21,7 @@ returns g c =
       exact = exact_of o;
       text_first = text_first_of o;
       fault = fault_of o;
+      blames = blames_of o;
       files = files_of o;
       calls = calls_of o;
       silent = silent_of o;
