@@ -1,10 +1,10 @@
 -- The design of a text is legal.
-use Rattle.std.proofs.Common.{◌≡◌, ◌≢◌, ℕ, zero, suc, ◌<◌, ◌≤◌, ◌+◌, ⊎_elim, Bool, true, false, not, ◌&&◌, cond, List, [], ◌∷◌, ◌++◌, length, get_or, Some, None, refl, sym, ap, ◌∙◌, subst, arith, add-zero, lit<, lit≤}
-use Rattle.std.specs.Prelude.{codes, decimal, Contains, slice_get, All, ◌==◌}
+use Rattle.std.proofs.Common.{◌≡◌, ◌≢◌, ℕ, zero, suc, ◌<◌, ◌≤◌, ◌+◌, ◌*◌, ⊎_elim, Bool, true, false, not, ◌&&◌, cond, List, [], ◌∷◌, ◌++◌, length, get_or, Some, refl, sym, ap, ◌∙◌, subst, arith, add-zero}
+use Rattle.std.specs.Prelude.{codes, decimal, Contains, slice_get, All, ◌==◌, flat_map}
 use Rattle.std.proofs.lemmas.Bool.{false≢true, and_parts}
 use Rattle.std.proofs.lemmas.Bool.Decides.{nat_tests}
-use Rattle.std.proofs.lemmas.List.{length-map}
-use Rattle.std.proofs.lemmas.List.Elements.{All-nil, All-cons, All-append, All-contains}
+use Rattle.std.proofs.lemmas.List.{length-map, length-append}
+use Rattle.std.proofs.lemmas.List.Elements.{All-nil, All-cons, All-append, All-weaker, Contains-get_or, Contains-append_left, Contains-append_right}
 use Rattle.std.proofs.lemmas.Option.{none-some, same_Some, slice_get_within, slice_get-get_or, get_or_from_slice_get}
 use Rattle.vlog_tree.specs.declared.Tree.{Tree}
 use Rattle.vlog_tree.specs.declared.Module.{Module}
@@ -13,25 +13,19 @@ use Rattle.vlog_tree.specs.declared.Direction.TheVariants.{Input}
 use Rattle.vlog_tree.specs.declared.NetKind.TheVariants.{Reg}
 use Rattle.vlog_tree.specs.declared.Item.{Item}
 use Rattle.vlog_tree.specs.declared.Item.TheVariants.{Always}
-use Rattle.vlog_tree.specs.declared.Stmt.{Stmt}
-use Rattle.vlog_tree.specs.declared.Stmt.TheVariants.{Nonblocking}
-use Rattle.vlog_tree.specs.declared.Target.{Target}
-use Rattle.vlog_tree.specs.declared.Target.TheVariants as target
-use Rattle.vlog_tree.specs.declared.Expr.{Expr}
-use Rattle.vlog_tree.specs.declared.Expr.TheVariants as expr
 use Rattle.design_core.specs.declared.flat.Design.{Design}
 use Rattle.design_core.specs.declared.flat.Process.{Process}
+use Rattle.design_core.specs.declared.flat.Stmt.{Stmt}
 use Rattle.design_core.specs.declared.setup.Setup.{Setup}
-use Rattle.design_core.specs.Exec.{target_bits, width_of}
-use Rattle.design_core.specs.Bounds.{IsWithin, ReadsBelow, AssignsBy}
-use Rattle.design_core.specs.Drive.{among, reads, drives, needs}
+use Rattle.design_core.specs.Drive.{among, drives}
 use Rattle.design_core.specs.Legality.{Distinct, OneDriver, is_given, IsLegal}
 use Rattle.design_core.proofs.Truth.{or_left, or_right}
-use Rattle.design_core.proofs.Settling.{among_some, some_among, Contains-some, some-Contains}
+use Rattle.design_core.proofs.Settling.{some_among, Contains-some, some-Contains}
 use Rattle.design_core.proofs.ClockedDesigns.{IsPlain, clocked_designs_are_legal}
-use Rattle.source_check.specs.Statements.{names_read, names_in_target, assigned_by, read_by, body_of, assignments_of, all_assignments}
-use Rattle.source_check.specs.Built.{port_names, IsReg, IsPlainPort, IsBuiltItem, IsBuiltModule, Assigns}
-use Rattle.source_check.specs.Flat.{in_scope, is_input, is_reg, bit_of, numbers_where, is_data_input, expr_of, target_of, stmt_of, process_of, processes_from, sites_from, design_of, IsDesignOf}
+use Rattle.source_check.specs.declared.flatten.build.Numbers.{Numbers}
+use Rattle.source_check.specs.Statements.{Leaf, read, numeral, leaves_of, Part, assignment, condition, parts_of, names_in_target, assigned_in, assigned_by, assignments_in, branches_in, body_of, all_parts}
+use Rattle.source_check.specs.Built.{port_names, IsReg, IsPlainPort, IsReadable, IsBuiltPart, IsBuiltItem, IsBuiltModule, Assigns}
+use Rattle.source_check.specs.Flat.{in_scope, is_input, is_reg, bit_of, start_of, numbers_where, is_data_input, stmt_of, process_of, processes_from, sites_from, arms_from, design_of, IsDesignOf}
 use Rattle.design_core.specs.declared.flat.Site.{Site}
 use Rattle.design_core.specs.declared.flat.SiteKind.{SiteKind}
 use Rattle.design_core.specs.declared.flat.SiteKind.TheVariants.{Assignment, Arm}
@@ -39,15 +33,8 @@ use Rattle.source_check.specs.declared.points.Point.{Point}
 use Rattle.source_check.specs.declared.points.Test.TheVariants.{Passed}
 use Rattle.source_check.specs.Points.{site_points, points_from, points_of, IsSiteBelow}
 use Rattle.source_check.proofs.Lookup.{at_bit, bit_within, bit_is, named_there, port_name_at}
-use Rattle.source_check.proofs.Owning.{one_name}
-
--- a list of one bit
-one_among : (a b : ℕ) → among (a ∷ []) b ≡ true → a ≡ b
-one_among a b h = let found = among_some (a ∷ []) b h in by found.0 found.1
-  where
-    by : (k : ℕ) → slice_get (a ∷ []) k ≡ Some b → a ≡ b
-    by zero at = same_Some a b at
-    by (suc k) at = absurd (none-some b at)
+use Rattle.source_check.proofs.Owning.{one_name, assigned_regs}
+use Rattle.source_check.proofs.Bodies.{assignments-append, branches-append, counted, GoodLeaf, GoodPart, Fine, fine}
 
 -- ---- lists
 
@@ -126,52 +113,34 @@ module _ (test : ℕ → Port → Bool) where
       by true j k at_j at_k rest = first j k at_j at_k rest
       by false j k at_j at_k rest = rest j k b at_j at_k
 
+-- ---- sites
+
+assignments_long : (path : List ℕ) (ordinal n : ℕ) → length (sites_from path ordinal n) ≡ n
+assignments_long path ordinal zero = refl
+assignments_long path ordinal (suc n) = ap (λ k. suc k) (assignments_long path (ordinal + 1) n)
+
+arms_long : (path : List ℕ) (ordinal n : ℕ) → length (arms_from path ordinal n) ≡ 2 * n
+arms_long path ordinal zero = refl
+arms_long path ordinal (suc n) = let rest = arms_long path (ordinal + 1) n in omega arith
+
+pub sites_count : (path : List ℕ) (statements branches : ℕ) → length (sites_from path 1 statements ++ arms_from path 1 branches) ≡ statements + 2 * branches
+sites_count path statements branches =
+    length-append (sites_from path 1 statements) (arms_from path 1 branches) ∙ (λ j. assignments_long path 1 statements j + arms_long path 1 branches j)
+
 -- ---- the design of a module
 
--- the bits that an assignment of one name to another assigns and reads
-assigns_bit : (names : List (List ℕ)) (site : ℕ) (s : Stmt) (b : ℕ) → drives (stmt_of names site s) b ≡ true → (name : List ℕ) × Contains (assigned_by s) name × (bit_of names name ≡ b)
-assigns_bit names site (Nonblocking s) b h = of_target s.target h
-  where
-    of_target : (t : Target) → among (target_bits (target_of names t)) b ≡ true → (name : List ℕ) × Contains (names_in_target t) name × (bit_of names name ≡ b)
-    of_target (target.Name x) h = (x.name, (0, lit< tt, refl), one_among (bit_of names x.name) b h)
-
-reads_bit : (names : List (List ℕ)) (site : ℕ) (s : Stmt) (b : ℕ) → needs (stmt_of names site s) b ≡ true → (name : List ℕ) × Contains (read_by s) name × (bit_of names name ≡ b)
-reads_bit names site (Nonblocking s) b h = of_expr s.value h
-  where
-    of_expr : (e : Expr) → reads (expr_of names e) b ≡ true → (name : List ℕ) × Contains (names_read e) name × (bit_of names name ≡ b)
-    of_expr (expr.Name x) h = (x.name, (0, lit< tt, refl), one_among (bit_of names x.name) b h)
-
--- a statement whose names are ports stays within the bits, and within as many sites as it has assignments
-stmt_within : (names : List (List ℕ)) (site bits sites : ℕ) (s : Stmt) → ((name : List ℕ) → Contains (assigned_by s) name → bit_of names name < bits) →
-    ((name : List ℕ) → Contains (read_by s) name → bit_of names name < bits) → site + assignments_of s ≤ sites → IsWithin (stmt_of names site s) bits sites
-stmt_within names site bits sites (Nonblocking s) assigned read room = (omega arith, of_target s.target assigned, widths s.target s.value, narrow s.value, of_expr s.value read)
-  where
-    of_target : (t : Target) → ((name : List ℕ) → Contains (names_in_target t) name → bit_of names name < bits) → All (λ b. b < bits) (target_bits (target_of names t))
-    of_target (target.Name x) h = All-cons (λ b. b < bits) (bit_of names x.name) [] (h x.name (0, lit< tt, refl)) (All-nil (λ b. b < bits))
-
-    of_expr : (e : Expr) → ((name : List ℕ) → Contains (names_read e) name → bit_of names name < bits) → ReadsBelow (expr_of names e) bits
-    of_expr (expr.Name x) h = All-cons (λ b. b < bits) (bit_of names x.name) [] (h x.name (0, lit< tt, refl)) (All-nil (λ b. b < bits))
-
-    widths : (t : Target) (e : Expr) → length (target_bits (target_of names t)) ≤ width_of (expr_of names e)
-    widths (target.Name x) (expr.Name y) = lit≤ tt
-
-    narrow : (e : Expr) → width_of (expr_of names e) ≤ 128
-    narrow (expr.Name x) = lit≤ tt
-
-waits : (names : List (List ℕ)) (site : ℕ) (s : Stmt) → AssignsBy true (stmt_of names site s)
-waits names site (Nonblocking s) = refl
-
 -- where a process of the design comes from
-record Made (names : List (List ℕ)) (clock site : ℕ) (items : List Item) (p : Process) : Type 0 where
+record Made (names : List (List ℕ)) (clock : ℕ) (items : List Item) (n : Numbers) (p : Process) : Type 0 where
   index : ℕ
   item : Item
   at : slice_get items index ≡ Some item
-  first : ℕ
-  within : first + assignments_of (body_of item) ≤ site + all_assignments items
-  is : p ≡ process_of names clock first item
+  first : Numbers
+  site_room : first.site + assignments_in (parts_of (body_of item)) ≤ n.site + assignments_in (all_parts items)
+  arm_room : first.arm + 2 * branches_in (parts_of (body_of item)) ≤ n.arm + 2 * branches_in (all_parts items)
+  is : p ≡ process_of clock item (stmt_of names (body_of item) first).0
 
-made_body : (names : List (List ℕ)) (clock site : ℕ) (i : Item) → (process_of names clock site i).body ≡ stmt_of names site (body_of i)
-made_body names clock site (Always a) = refl
+made_body : (clock : ℕ) (i : Item) (body : Stmt) → (process_of clock i body).body ≡ body
+made_body clock (Always a) body = refl
 
 data_input : (clock bit : ℕ) (p : Port) → p.direction ≡ Input → bit ≢ clock → is_data_input clock bit p ≡ true
 data_input clock bit p input other = ap (λ x. x && not (bit == clock)) (ap is_input input) ∙ ap not (not_equal bit clock other)
@@ -179,15 +148,41 @@ data_input clock bit p input other = ap (λ x. x && not (bit == clock)) (ap is_i
     not_equal : (a b : ℕ) → a ≢ b → (a == b) ≡ false
     not_equal a b ne = grind (arith, nat_tests)
 
-made : (names : List (List ℕ)) (clock site : ℕ) (items : List Item) (k : ℕ) (p : Process) → slice_get (processes_from names clock site items) k ≡ Some p →
-    (m : Made names clock site items p) × (m.index ≡ k)
-made names clock site [] k p h = absurd (none-some p h)
-made names clock site (i ∷ is) zero p h =
-    (record { index = 0; item = i; at = refl; first = site; within = omega arith; is = sym (same_Some (process_of names clock site i) p h) }, refl)
-made names clock site (i ∷ is) (suc k) p h =
-    let m = made names clock (site + assignments_of (body_of i)) is k p h in
-    let room = m.0.within in
-    (record { index = suc m.0.index; item = m.0.item; at = m.0.at; first = m.0.first; within = omega arith; is = m.0.is }, ap (λ n. suc n) m.1)
+made : (names : List (List ℕ)) (clock : ℕ) (items : List Item) (n : Numbers) (k : ℕ) (p : Process) → slice_get (processes_from names clock items n).0 k ≡ Some p →
+    (m : Made names clock items n p) × (m.index ≡ k)
+made names clock [] n k p h = absurd (none-some p h)
+made names clock (i ∷ is) n zero p h =
+    let here = parts_of (body_of i) in (
+      record {
+        index = 0;
+        item = i;
+        at = refl;
+        first = n;
+        site_room = omega (arith, assignments-append here (all_parts is));
+        arm_room = omega (arith, branches-append here (all_parts is));
+        is = sym (same_Some (process_of clock i (stmt_of names (body_of i) n).0) p h);
+      },
+      refl,
+    )
+made names clock (i ∷ is) n (suc k) p h =
+    let here = parts_of (body_of i) in
+    let m = made names clock is (stmt_of names (body_of i) n).1 k p h in
+    let step = counted names (body_of i) n in
+    let site = step.site in
+    let arm = step.arm in
+    let site_room = m.0.site_room in
+    let arm_room = m.0.arm_room in (
+      record {
+        index = suc m.0.index;
+        item = m.0.item;
+        at = m.0.at;
+        first = m.0.first;
+        site_room = omega (arith, assignments-append here (all_parts is));
+        arm_room = omega (arith, branches-append here (all_parts is));
+        is = m.0.is;
+      },
+      ap (λ n. suc n) m.1,
+    )
 
 module _ (m : Module) (setup : Setup) (built : IsBuiltModule m setup) where
   abbrev d : Design
@@ -203,11 +198,16 @@ module _ (m : Module) (setup : Setup) (built : IsBuiltModule m setup) where
   names_long = length-map m.ports (λ (p : Port). p.name.name)
 
   bits_long : length d.bits ≡ length m.ports
-  bits_long = length-map m.ports (λ (p : Port). record { name = in_scope m.name.name p.name.name; start = None })
+  bits_long = length-map m.ports (λ (p : Port). record { name = in_scope m.name.name p.name.name; start = start_of p.value })
 
-  sites_long : (ordinal n : ℕ) → length (sites_from m.name.name ordinal n) ≡ n
-  sites_long ordinal zero = refl
-  sites_long ordinal (suc n) = ap (λ k. suc k) (sites_long (ordinal + 1) n)
+  abbrev parts : List Part
+  parts = all_parts m.items
+
+  abbrev start : Numbers
+  start = record { site = 0; arm = assignments_in parts }
+
+  sites_long : length d.sites ≡ assignments_in parts + 2 * branches_in parts
+  sites_long = sites_count m.name.name (assignments_in parts) (branches_in parts)
 
   -- a bit of a port lies within
   bit_below : (name : List ℕ) → Contains names name → bit_of names name < length d.bits
@@ -263,39 +263,81 @@ module _ (m : Module) (setup : Setup) (built : IsBuiltModule m setup) where
   item_at : (k : ℕ) (i : Item) → slice_get m.items k ≡ Some i → IsBuiltItem m.ports setup.clock i
   item_at k i at = All-at (IsBuiltItem m.ports setup.clock) m.items k i at built.items
 
+  -- a bit that an item assigns, and one that may be read
+  abbrev Assigned : Item → ℕ → Type 0
+  Assigned i b = (name : List ℕ) × Contains (assigned_by (body_of i)) name × (bit_of names name ≡ b) × IsReg m.ports name
+
+  abbrev Given : ℕ → Type 0
+  Given b = (is_given d b ≡ true) × (b < length d.bits)
+
+  assigned_below : (i : Item) (b : ℕ) → Assigned i b → b < length d.bits
+  assigned_below i b h = subst (λ x. x < length d.bits) h.2 (bit_below h.0 (reg_there h.0 h.3))
+
+  good_leaf : (i : Item) (l : Leaf) → IsReadable m.ports setup.clock l → GoodLeaf names (length d.bits) (length d.sites) (Assigned i) Given (assigned_below i) (λ b h. h.1) l
+  good_leaf i (read x) h = (is_read x h.0 h.1, bit_below x h.0)
+  good_leaf i (numeral text) h = tt
+
+  good_part : (i : Item) (p : Part) → ((name : List ℕ) → Contains (assigned_in p) name → Contains (assigned_by (body_of i)) name) → IsBuiltPart m.ports setup.clock p →
+      GoodPart names (length d.bits) (length d.sites) (Assigned i) Given (assigned_below i) (λ b h. h.1) p
+  good_part i (assignment t v) there h = (
+    λ k x lt. (
+      get_or (names_in_target t) k x,
+      there (get_or (names_in_target t) k x) (Contains-get_or (names_in_target t) k x lt),
+      refl,
+      h.0 k x lt,
+    ),
+    All-weaker (IsReadable m.ports setup.clock) (GoodLeaf names (length d.bits) (length d.sites) (Assigned i) Given (assigned_below i) (λ b k. k.1)) (good_leaf i) (leaves_of v) h.1,
+  )
+  good_part i (condition c) there h =
+      All-weaker (IsReadable m.ports setup.clock) (GoodLeaf names (length d.bits) (length d.sites) (Assigned i) Given (assigned_below i) (λ b k. k.1)) (good_leaf i) (leaves_of c) h
+
+  -- names of a part are names of the whole
+  part_of_whole : (ps : List Part) (k : ℕ) (p : Part) → k < length ps → (name : List ℕ) → Contains (assigned_in (get_or ps k p)) name → Contains (flat_map assigned_in ps) name
+  part_of_whole [] k p lt name h = absurd (omega arith)
+  part_of_whole (q ∷ ps) zero p lt name h = Contains-append_left (assigned_in q) (flat_map assigned_in ps) name h
+  part_of_whole (q ∷ ps) (suc k) p lt name h = Contains-append_right (assigned_in q) (flat_map assigned_in ps) name (part_of_whole ps k p (omega arith) name h)
+
+  body_fine : (n : Numbers) (i : Item) → IsBuiltItem m.ports setup.clock i → n.site + assignments_in (parts_of (body_of i)) ≤ length d.sites →
+      n.arm + 2 * branches_in (parts_of (body_of i)) ≤ length d.sites →
+      Fine names (length d.bits) (length d.sites) (Assigned i) Given (assigned_below i) (λ b h. h.1) (stmt_of names (body_of i) n).0
+  body_fine n i b site arm =
+      fine names (length d.bits) (length d.sites) (Assigned i) Given (assigned_below i) (λ b h. h.1) (body_of i) n
+      (λ k p lt. good_part i (get_or (parts_of (body_of i)) k p) (part_of_whole (parts_of (body_of i)) k p lt) (b.parts k p lt))
+      (record { site = site; arm = arm })
+
   -- each process is as it must be
-  process_plain : (site : ℕ) (i : Item) → IsBuiltItem m.ports setup.clock i → site + assignments_of (body_of i) ≤ length d.sites → IsPlain d (process_of names clock site i)
-  process_plain site (Always a) b room = record {
+  process_plain : (i : Item) (body : Stmt) → Fine names (length d.bits) (length d.sites) (Assigned i) Given (assigned_below i) (λ b h. h.1) body → IsPlain d (process_of clock i body)
+  process_plain (Always a) body f = record {
     kind = refl;
-    within = stmt_within names site (length d.bits) (length d.sites) a.body
-        (λ name h. bit_below name (reg_there name (All-contains (IsReg m.ports) (assigned_by a.body) name b.assigned h)))
-        (λ name h. bit_below name (All-contains (Contains names) (read_by a.body) name b.read.ports h)) room;
-    waits = waits names site a.body;
-    reads = λ bit h.
-        let found = reads_bit names site a.body bit h in
-        subst (λ x. is_given d x ≡ true) found.2
-        (is_read found.0 (All-contains (Contains names) (read_by a.body) found.0 b.read.ports found.1) (All-contains (λ name. name ≢ setup.clock) (read_by a.body) found.0 b.read.others found.1));
-    targets = λ bit h.
-        let found = assigns_bit names site a.body bit h in
-        subst (Contains d.registers) found.2 (is_register found.0 (All-contains (IsReg m.ports) (assigned_by a.body) found.0 b.assigned found.1));
+    within = f.within;
+    waits = f.waits;
+    reads = λ bit h. (f.reads bit h).0;
+    targets = λ bit h. let found = f.targets bit h in subst (Contains d.registers) found.2 (is_register found.0 found.3);
   }
+
+  made_fine : (p : Process) (from : Made names clock m.items start p) →
+      Fine names (length d.bits) (length d.sites) (Assigned from.item) Given (assigned_below from.item) (λ b h. h.1) (stmt_of names (body_of from.item) from.first).0
+  made_fine p from =
+      let site = from.site_room in
+      let arm = from.arm_room in
+      body_fine from.first from.item (item_at from.index from.item from.at) (omega (arith, sites_long)) (omega (arith, sites_long))
 
   all_plain : All (IsPlain d) d.processes
   all_plain k p lt =
-      let from = made names clock 0 m.items k (get_or d.processes k p) (slice_get-get_or d.processes k p lt) in
-      let room = from.0.within in
+      let from = made names clock m.items start k (get_or d.processes k p) (slice_get-get_or d.processes k p lt) in
       subst (IsPlain d) (sym from.0.is)
-      (process_plain from.0.first from.0.item (item_at from.0.index from.0.item from.0.at) (omega (arith, sites_long 1 (all_assignments m.items))))
+      (process_plain from.0.item (stmt_of names (body_of from.0.item) from.0.first).0 (made_fine (get_or d.processes k p) from.0))
 
   assigned_at : (k bit : ℕ) (p : Process) → slice_get d.processes k ≡ Some p → drives p.body bit ≡ true → (name : List ℕ) × Assigns m.items k name × (bit_of names name ≡ bit)
   assigned_at k bit p at h =
-      let from = made names clock 0 m.items k p at in
-      let body = made_body names clock from.0.first from.0.item in
-      let found = assigns_bit names from.0.first (body_of from.0.item) bit (sym (ap (λ s. drives s bit) (ap (λ (q : Process). q.body) from.0.is ∙ body)) ∙ h) in
+      let from = made names clock m.items start k p at in
+      let made = (stmt_of names (body_of from.0.item) from.0.first).0 in
+      let body = made_body clock from.0.item made in
+      let found = (made_fine p from.0).targets bit (sym (ap (λ s. drives s bit) (ap (λ (q : Process). q.body) from.0.is ∙ body)) ∙ h) in
       (found.0, (from.0.item, ap (slice_get m.items) (sym from.1) ∙ from.0.at, found.1), found.2)
 
   known : All (λ i. All (IsReg m.ports) (assigned_by (body_of i))) m.items
-  known k i lt = (built.items k i lt).assigned
+  known k i lt = assigned_regs m.ports setup.clock (get_or m.items k i) (built.items k i lt)
 
   one : OneDriver d.processes
   one j k bit p q at_j at_k drives_j drives_k =
@@ -331,12 +373,6 @@ module _ (m : Module) (setup : Setup) (built : IsBuiltModule m setup) where
 
 pub text_design_is_legal : (tree : Tree) (setup : Setup) (d : Design) → IsDesignOf tree setup d → IsLegal d []
 text_design_is_legal tree setup d h = subst (λ x. IsLegal x []) (sym h.3) (design_is_legal h.0 setup h.2)
-
--- it has few sites
-pub few_sites : (tree : Tree) (setup : Setup) (d : Design) → IsDesignOf tree setup d → length d.sites ≤ 65536
-few_sites tree setup d h =
-    subst (λ (x : Design). length x.sites ≤ 65536) (sym h.3)
-    (let long = sites_long h.0 setup h.2 1 (all_assignments h.0.items) in let few = h.2.few_statements in omega arith)
 
 -- the points of a design are of its sites
 points_below : (sites : List Site) (n bound : ℕ) → n + length sites ≤ bound → All (λ (p : Point). IsSiteBelow bound p.test) (points_from n sites)

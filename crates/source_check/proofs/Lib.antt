@@ -1,6 +1,10 @@
+pub mod Rows
+pub mod Trees
+pub mod Bodies
 pub mod Lookup
 pub mod Owning
+pub mod Forms
 pub mod Numbering
-pub mod LegalDesigns
 pub mod Truth
 pub mod OneByOne
+pub mod LegalDesigns

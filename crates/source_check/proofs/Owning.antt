@@ -1,21 +1,30 @@
 -- Each bit's owner, one item after another.
-use Rattle.std.proofs.Common.{◌≡◌, ◌≢◌, ℕ, ◌<◌, ◌≤◌, ◌+◌, inl, inr, ⊎_elim, List, [], ◌∷◌, length, get_or, Option, Some, None, refl, sym, ap, ◌∙◌, subst, arith, set, replicate}
+use Rattle.std.proofs.Common.{◌≡◌, ◌≢◌, ℕ, ◌<◌, ◌≤◌, ◌+◌, inl, inr, ⊎_elim, List, [], ◌∷◌, ◌++◌, length, get_or, Option, Some, None, refl, sym, ap, ◌∙◌, subst, arith, set, replicate}
 use Rattle.std.specs.Prelude.{Contains, slice_get, All}
 use Rattle.std.proofs.lemmas.Bool.{cases_eq, cases_lt}
 use Rattle.std.proofs.lemmas.List.{length-set, get_or-set_same, get_or-set_other, length-replicate, get_or-replicate, get_or_past, length-map}
-use Rattle.std.proofs.lemmas.List.Elements.{All-contains, Contains-push}
+use Rattle.std.proofs.lemmas.List.Elements.{All-nil, All-weaker, All-contains, Contains-push, Contains-append_left, Contains-append_right, Contains-append_cases}
 use Rattle.std.proofs.lemmas.Option.{slice_get_within, get_or_from_slice_get, slice_get-get_or, none-some, same_Some}
 use Rattle.vlog_tree.specs.declared.Port.{Port}
 use Rattle.vlog_tree.specs.declared.NetKind.TheVariants.{Reg}
 use Rattle.vlog_tree.specs.declared.Item.{Item}
-use Rattle.source_check.specs.Statements.{assigned_by, body_of}
-use Rattle.source_check.specs.Built.{port_names, AreDistinct, IsReg, Assigns, HasOneDriver}
+use Rattle.source_check.specs.Statements.{Part, assignment, condition, parts_of, assigned_in, assigned_by, body_of}
+use Rattle.source_check.specs.Built.{port_names, AreDistinct, IsReg, IsBuiltPart, IsBuiltItem, Assigns, HasOneDriver}
 use Rattle.source_check.specs.Flat.{bit_of}
 use Rattle.source_check.specs.Drivers.{owner_at, Owns, Clashes, AreOwners, AssignsOnce}
+use Rattle.source_check.proofs.Trees.{all_flat}
 use Rattle.source_check.proofs.Lookup.{at_bit, bit_within, bit_is, named_there, port_name_at}
 
 only_one : (x y : List ℕ) → Contains (x ∷ []) y → y ≡ x
 only_one x y h = let none : h.0 ≡ 0 = omega (arith, h.1) in sym h.2 ∙ ap (λ k. get_or (x ∷ []) k y) none
+
+-- the names that a built item assigns are `reg` ports
+pub assigned_regs : (ports : List Port) (clock : List ℕ) (i : Item) → IsBuiltItem ports clock i → All (IsReg ports) (assigned_by (body_of i))
+assigned_regs ports clock i b = all_flat (IsReg ports) assigned_in (parts_of (body_of i)) (All-weaker (IsBuiltPart ports clock) (λ p. All (IsReg ports) (assigned_in p)) of_part (parts_of (body_of i)) b.parts)
+  where
+    of_part : (p : Part) → IsBuiltPart ports clock p → All (IsReg ports) (assigned_in p)
+    of_part (assignment t v) h = h.0
+    of_part (condition c) h = All-nil (IsReg ports)
 
 -- the `reg` ports before port n have owners
 pub record DrivenBelow (ports : List Port) (owners : List (Option ℕ)) (n : ℕ) : Type 0 where
@@ -54,6 +63,29 @@ module _ (names : List (List ℕ)) (name : List ℕ) (item bit : ℕ) (owners : 
         (λ other. inl (sym (get_or-set_other owners bit b (Some item) None other) ∙ has))
         (cases_eq b bit);
   }
+
+-- names that become owned one after another
+module _ (names : List (List ℕ)) (item : ℕ) where
+  module _ (xs ys : List (List ℕ)) (old mid : List (Option ℕ)) (first : Owns names xs item old mid) where
+    pub owns_both : (new : List (Option ℕ)) → Owns names ys item mid new → Owns names (xs ++ ys) item old new
+    owns_both new second = record {
+      long = second.long ∙ first.long;
+      mine = λ name h. ⊎_elim (λ x. second.kept (bit_of names name) item (first.mine name x)) (second.mine name) (Contains-append_cases xs ys name h);
+      kept = λ bit owner h. second.kept bit owner (first.kept bit owner h);
+      only = λ bit owner h. ⊎_elim
+          (λ had. ⊎_elim (λ was. inl was) (λ mine. inr (mine.0, mine.1, Contains-append_left xs ys mine.1 mine.2, mine.3)) (first.only bit owner had))
+          (λ mine. inr (mine.0, mine.1, Contains-append_right xs ys mine.1 mine.2, mine.3))
+          (second.only bit owner h);
+    }
+
+    -- an owner that clashes with a later name was there before
+    pub clash_later : Clashes names ys item mid → Clashes names (xs ++ ys) item old
+    clash_later c =
+        let was = first.only (bit_of names c.0) c.2 c.4 in
+        (c.0, Contains-append_right xs ys c.0 c.1, c.2, c.3, ⊎_elim (λ had. had) (λ mine. absurd (c.3 mine.0)) was)
+
+  pub clash_first : (xs ys : List (List ℕ)) (owners : List (Option ℕ)) → Clashes names xs item owners → Clashes names (xs ++ ys) item owners
+  clash_first xs ys owners c = (c.0, Contains-append_left xs ys c.0 c.1, c.2, c.3, c.4)
 
 module _ (ports : List Port) (items : List Item) (known : All (λ i. All (IsReg ports) (assigned_by (body_of i))) items) where
   abbrev names : List (List ℕ)

@@ -25,6 +25,7 @@ use Rattle.source_check.specs.Judging.{Judges, AreTrue}
 abbrev pub TextRefused : List ℕ → TextError → Type 0
 TextRefused text (text_error.TooLong length) = TextAnswers text (Err (text_error.TooLong length))
 TextRefused text (text_error.Parse (parse_error.Expected at what)) = TextAnswers text (Err (text_error.Parse (parse_error.Expected at what)))
+TextRefused text (text_error.Parse (parse_error.TooDeep at)) = TextAnswers text (Err (text_error.Parse (parse_error.TooDeep at)))
 TextRefused text (text_error.Parse parse_error.Memory) = ⊥
 TextRefused text text_error.Memory = ⊥
 

@@ -13,7 +13,7 @@ pub enum SourceError {
     Text(TextError),
     /// Its tree has no design so far. The place is that of the text's first token.
     NotBuilt { at: Place },
-    /// Memory ran out.
+    /// Memory ran out, or the design would have 2^32 sites or more.
     Memory,
 }
 
@@ -41,7 +41,7 @@ pub enum CheckError {
     Missing { point: Name },
     /// The claim for this point says of its stimulus what isn't so.
     NotHit { point: Name },
-    /// Memory ran out.
+    /// Memory ran out, or the design would have 2^32 sites or more.
     Memory,
 }
 

@@ -6,7 +6,7 @@ mod drivers;
 mod ports;
 mod scope;
 
-ghost use Rattle.std.specs.Prelude.{◌≡◌, MatchOption, IfOk};
+ghost use Rattle.std.specs.Prelude.{◌≡◌, ◌<◌, ◌^◌, length, MatchOption, IfOk};
 ghost use Rattle.source_check.specs.Built.{IsBuiltModule};
 ghost use Rattle.source_check.specs.Flat.{design_of, Flattens};
 
@@ -25,7 +25,7 @@ use word_core::Place;
 pub enum FlatError {
     /// It is beyond what is built so far. The place is that of the text's first token.
     NotBuilt { at: Place },
-    /// Memory ran out.
+    /// Memory ran out, or the design would have 2^32 sites or more.
     Memory,
 }
 
@@ -40,14 +40,14 @@ impl From<AllocError> for FlatError {
     }
 }
 
-/// The design of a module, or none where it has none.
+/// The design of a module, or none where it has none. Want of memory is answered also where it has 2^32 sites or more.
 fn flatten_module(
     alloc: Global,
     module: &Module,
     setup: &Setup,
 ) -> Result<Option<Design>, AllocError>
     ensures { IfOk result (λ o. MatchOption o (IsBuiltModule module.now setup.now → ⊥)
-        (λ d. IsBuiltModule module.now setup.now × (d ≡ design_of module.now setup.now))) }
+        (λ d. IsBuiltModule module.now setup.now × (d ≡ design_of module.now setup.now) × (length d.sites < 2 ^ 32))) }
 {
     let list = module.ports.as_slice();
     let items = module.items.as_slice();

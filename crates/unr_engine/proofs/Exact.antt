@@ -10,7 +10,7 @@ use Rattle.vlog_items.specs.declared.error.TextError.{TextError}
 use Rattle.vlog_items.specs.declared.error.TextError.TheVariants as text_error
 use Rattle.vlog_items.specs.declared.error.ParseError.TheVariants as parse_error
 use Rattle.vlog_items.specs.Answers.{TextAnswers}
-use Rattle.vlog_items.proofs.Once.{one_tree, not_both}
+use Rattle.vlog_items.proofs.Once.{one_tree, not_both, not_too_deep}
 use Rattle.cert_text.specs.declared.cert.Cert.{Cert}
 use Rattle.cert_text.specs.declared.cert.CertClaim.{CertClaim}
 use Rattle.cert_text.specs.declared.error.CertError.{CertError}
@@ -43,6 +43,7 @@ use Rattle.unr_engine.proofs.Kept.{told_of, ran_of}
 text_or_none : (text : List ℕ) (tree : Tree) (error : TextError) → TextAnswers text (Ok tree) → TextAnswers text (Err error) → text_status error ≡ 7
 text_or_none text tree (text_error.TooLong count) a b = absurd (omega (arith, a.0, b.0))
 text_or_none text tree (text_error.Parse (parse_error.Expected place what)) a b = absurd (not_both text tree place what a b)
+text_or_none text tree (text_error.Parse (parse_error.TooDeep place)) a b = absurd (not_too_deep text tree place a b)
 text_or_none text tree (text_error.Parse parse_error.Memory) a b = refl
 text_or_none text tree text_error.Memory a b = refl
 
@@ -141,6 +142,7 @@ are_judged_alike text spelling x y a b =
 text_four : (error : TextError) → (text_status error ≡ 4) ⊎ (text_status error ≡ 7)
 text_four (text_error.TooLong count) = inl refl
 text_four (text_error.Parse (parse_error.Expected place what)) = inl refl
+text_four (text_error.Parse (parse_error.TooDeep place)) = inl refl
 text_four (text_error.Parse parse_error.Memory) = inr refl
 text_four text_error.Memory = inr refl
 

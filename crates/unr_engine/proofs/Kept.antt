@@ -35,6 +35,7 @@ IsRefusalStatus status = (status ≡ 4) ⊎ ((status ≡ 5) ⊎ (status ≡ 7))
 
 of_parse : (error : ParseError) → IsRefusalStatus (parse_status error)
 of_parse (parse.Expected place what) = inl refl
+of_parse (parse.TooDeep place) = inl refl
 of_parse parse.Memory = inr (inr refl)
 
 of_text : (error : TextError) → IsRefusalStatus (text_status error)

@@ -20,6 +20,8 @@ memory_message = codes "unr: memory\n"
 abbrev pub parse_message : ParseError → List ℕ
 parse_message (parse.Expected place what) =
     codes "unr: source " ++ (decimal place.line ++ (codes ":" ++ (decimal place.col ++ (codes " Expected " ++ (what ++ codes "\n")))))
+parse_message (parse.TooDeep place) =
+    codes "unr: source " ++ (decimal place.line ++ (codes ":" ++ (decimal place.col ++ codes " TooDeep\n")))
 parse_message parse.Memory = memory_message
 
 abbrev pub text_message : TextError → List ℕ

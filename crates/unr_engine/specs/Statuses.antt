@@ -16,6 +16,7 @@ use Rattle.unr_engine.specs.Ends.{Why, Not_words, Fault_at, Fault_of_output, Out
 
 abbrev pub parse_status : ParseError → ℕ
 parse_status (parse.Expected place what) = 4
+parse_status (parse.TooDeep place) = 4
 parse_status parse.Memory = 7
 
 abbrev pub text_status : TextError → ℕ

@@ -32,6 +32,16 @@ fn say_parse_error<E: Sink>(err: &mut E, error: &ParseError) -> Result<(), SinkE
                 Piece::Text(b"\n"),
             ],
         ),
+        ParseError::TooDeep { at } => put_all(
+            err,
+            &[
+                Piece::Text(b"unr: source "),
+                Piece::Number(u64::from(at.line)),
+                Piece::Text(b":"),
+                Piece::Number(u64::from(at.col)),
+                Piece::Text(b" TooDeep\n"),
+            ],
+        ),
         ParseError::Memory => say_memory(err),
     }
 }

@@ -81,6 +81,7 @@ fn text_status(error: &TextError) -> u8
     match error {
         TextError::TooLong { .. } => 4,
         TextError::Parse(ParseError::Expected { .. }) => 4,
+        TextError::Parse(ParseError::TooDeep { .. }) => 4,
         TextError::Parse(ParseError::Memory) => 7,
         TextError::Memory => 7,
     }

@@ -13,6 +13,21 @@ const CERT: &str =
 
 const REPORT: &[u8] = b"reached 0 S t #1\npoints 1 excluded 0 reached 1 open 0\n";
 
+// Two registers, of which one is assigned in two arms.
+const LOGIC: &[u8] = b"module t(input clk, input a, output reg x, output reg y); \
+    always @(posedge clk) x <= ~y; always @(posedge clk) if (x & y) y <= a; else y <= x; endmodule";
+
+const LOGIC_CERT: &str = "unr 1|top t|clock clk|cycles 0|points s|claims 3|\
+    S t #1|reached 0|start 00|in 0|end|S t #2|reached 2|start 00|in 0|in 0|in 0|end|\
+    S t #3|reached 0|start 00|in 0|end|";
+
+const LOGIC_REPORT: &[u8] =
+    b"reached 0 S t #1\nreached 2 S t #2\nreached 0 S t #3\npoints 3 excluded 0 reached 3 open 0\n";
+
+// A register that starts with 0.
+const STARTS: &[u8] =
+    b"module t(input clk, input a, output reg q = 1'b0); always @(posedge clk) q <= a; endmodule";
+
 // A run, and what it is to give. In `cert` a bar stands for a line feed. Of `fails` the first is the call of the desk that fails, then that of the output and of the error output, or 0.
 #[derive(Clone, Copy)]
 struct Case<'a> {
@@ -105,6 +120,11 @@ fn runs(rt: HostRuntime) -> Result<(), TestFail> {
             out: REPORT,
             ..case_of(check, CERT, none, 0, "", 2)
         },
+        Case {
+            text: LOGIC,
+            out: LOGIC_REPORT,
+            ..case_of(check, LOGIC_CERT, none, 0, "", 2)
+        },
         case_of("", CERT, none, 2, "unr: words\n", 0),
         case_of("check t.v", CERT, none, 2, "unr: words\n", 0),
         case_of("check t.v t.cert c", CERT, none, 2, "unr: words\n", 0),
@@ -143,6 +163,17 @@ fn runs(rt: HostRuntime) -> Result<(), TestFail> {
             "unr: claim S t #1 NotHit\n",
             2,
         ),
+        Case {
+            text: STARTS,
+            ..case_of(
+                check,
+                "unr 1|top t|clock clk|cycles 0|points s|claims 1|S t #1|reached 0|start 1|in 0|end|",
+                none,
+                5,
+                "unr: claim S t #1 NotHit\n",
+                2,
+            )
+        },
         case_of(
             check,
             "unr 1|top t|clock clk|cycles 0|points s|claims 1|S t #2|reached 0|start 0|in 0|end|",

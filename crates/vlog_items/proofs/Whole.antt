@@ -1,33 +1,22 @@
 -- What reading all of the tokens as a text has to say.
-use Rattle.std.proofs.Common.{◌≢◌, ◌≡◌, ℕ, ◌≤◌, List, [], ◌∷◌, ◌++◌, length, Ok, Err, refl, sym, ◌∙◌, ap, subst, arith, length-append}
+use Rattle.std.proofs.Common.{◌≢◌, ◌≡◌, ℕ, ◌≤◌, List, [], ◌∷◌, ◌++◌, length, Ok, Err, refl, ◌∙◌, ap, subst, arith, length-append}
 use Rattle.word_core.specs.declared.place.Place.{Place}
 use Rattle.vlog_tree.specs.declared.Tree.{Tree}
 use Rattle.vlog_lex.specs.Tokens.{Token}
 use Rattle.parsing.specs.declared.fault.Fault.{Fault}
 use Rattle.parsing.specs.declared.fault.Fault.TheVariants.{Memory, Expected, TooDeep}
-use Rattle.parsing.specs.Forms.{Stands}
 use Rattle.parsing.specs.Reading.{Outcome, and_then}
-use Rattle.parsing.specs.Answers.{GoesOn, IsTree, IsRefused, IsTooDeep}
-use Rattle.parsing.proofs.Facts.{spells_changed}
+use Rattle.parsing.specs.Answers.{IsTree, IsRefused, IsTooDeep}
 use Rattle.parsing.proofs.Knot.{Says, exact}
 use Rattle.vlog_grammar.specs.Grammar.{V, rules, firsts, mores, source, IsSource}
 use Rattle.vlog_grammar.proofs.Sound.{lexical, grammar_sound, source_sound}
 use Rattle.vlog_items.specs.declared.error.ParseError.{ParseError}
 use Rattle.vlog_items.specs.declared.error.ParseError.TheVariants as parse_error
-use Rattle.vlog_items.specs.Reading.{at_end, all_read}
+use Rattle.vlog_items.specs.Reading.{inner, at_end, all_read}
 use Rattle.vlog_items.specs.Answers.{start_of, IsRefusalAt, Answers}
 
 abbrev Input : Type 0
 Input = List Token
-
--- no part nests, so the number of levels is the same for all
-flat : (l m : ℕ) (x : Tree) (ts : Input) → IsSource l x ts → IsSource m x ts
-flat l m x ts d = spells_changed V firsts (Stands V rules) (Stands V rules) source l m (λ s. elim s [ ]) x ts [] d
-
-never_deep : (front rest : Input) → IsTooDeep IsSource 256 front rest → ⊥
-never_deep front rest d =
-    let deeper = d.deeper.1 in
-    d.first (subst (λ z. GoesOn IsSource 256 front z) (sym d.is_next) (deeper.0, deeper.1, flat d.deeper.0 256 deeper.0 ((front ++ d.next ∷ []) ++ deeper.1) deeper.2))
 
 -- a place that fits each way of cutting off so many tokens
 abbrev pub Fits : Input → Place → ℕ → Place → Type 0
@@ -36,11 +25,14 @@ Fits i end left at = (front rest : Input) → i ≡ front ++ rest → left ≡ l
 abbrev pub Refused : Input → Place → Place → Type 0
 Refused i end at = (front : Input) × (rest : Input) × (i ≡ front ++ rest) × (at ≡ start_of rest end) × IsRefused IsSource 256 front rest
 
+abbrev pub Deep : Input → Place → Place → Type 0
+Deep i end at = (front : Input) × (rest : Input) × (i ≡ front ++ rest) × (at ≡ start_of rest end) × IsTooDeep IsSource 256 front rest
+
 abbrev pub All : Input → Place → Outcome Token Tree → Type 0
 All i end (Ok (x, rest)) = IsTree IsSource 256 i x
 All i end (Err Memory) = ⊥
 All i end (Err (Expected left)) = (left ≤ length i) × ((at : Place) → Fits i end left at → Refused i end at)
-All i end (Err (TooDeep left)) = ⊥
+All i end (Err (TooDeep left)) = (left ≤ length i) × ((at : Place) → Fits i end left at → Deep i end at)
 
 short : (i front rest : Input) (left : ℕ) → i ≡ front ++ rest → left ≡ length rest → left ≤ length i
 short i front rest left e h = let k : length i ≡ length (front ++ rest) = ap length e in omega (arith, k, h, length-append front rest)
@@ -50,10 +42,10 @@ all_says i end (Ok (x, [])) s = s
 all_says i end (Ok (x, t ∷ ts)) s = (short i s.0 (t ∷ ts) _ s.1 refl, λ at fits. (s.0, t ∷ ts, s.1, fits s.0 (t ∷ ts) s.1 refl, s.2))
 all_says i end (Err Memory) s = s
 all_says i end (Err (Expected left)) s = (short i s.0 s.1 left s.2 s.3, λ at fits. (s.0, s.1, s.2, fits s.0 s.1 s.2 s.3, s.4))
-all_says i end (Err (TooDeep left)) s = never_deep s.0 s.1 s.4
+all_says i end (Err (TooDeep left)) s = (short i s.0 s.1 left s.2 s.3, λ at fits. (s.0, s.1, s.2, fits s.0 s.1 s.2 s.3, s.4))
 
 says : (i : Input) (end : Place) → All i end (all_read i)
-unfolding all_read
+unfolding all_read inner
 says i end = all_says i end _ (exact V lexical rules firsts mores grammar_sound source 256 i source_sound (omega arith))
 
 pub read_all : (i : Input) (end : Place) (x : Tree) (rest : Input) → all_read i ≡ Ok (x, rest) → IsTree IsSource 256 i x
@@ -63,11 +55,12 @@ pub expected_now : (i j : Input) → i ≡ j → (end : Place) (f : Fault) (left
 expected_now i j same end f left is h =
     subst (All j end) (subst (λ z. all_read z ≡ Err (Expected left)) same (h (λ m. let no : Expected left ≡ Memory = cc in cc) ∙ ap Err is)) (says j end)
 
-pub deep_never : (i j : Input) → i ≡ j → (end : Place) (f : Fault) (left : ℕ) → f ≡ TooDeep left → (f ≢ Memory → all_read i ≡ Err f) → ⊥
-deep_never i j same end f left is h =
+pub deep_now : (i j : Input) → i ≡ j → (end : Place) (f : Fault) (left : ℕ) → f ≡ TooDeep left → (f ≢ Memory → all_read i ≡ Err f) → (left ≤ length j) × ((at : Place) → Fits j end left at → Deep j end at)
+deep_now i j same end f left is h =
     subst (All j end) (subst (λ z. all_read z ≡ Err (TooDeep left)) same (h (λ m. let no : TooDeep left ≡ Memory = cc in cc) ∙ ap Err is)) (says j end)
 
 -- what a refusal at a place that fits answers
 pub refusal_answers : (i : Input) (end at : Place) (e : ParseError) → IsRefusalAt at e → Refused i end at → Answers i end (Err e)
 refusal_answers i end at (parse_error.Expected place what) same r = (r.0, r.1, r.2, same ∙ r.3, r.4)
+refusal_answers i end at (parse_error.TooDeep place) same r = absurd same
 refusal_answers i end at parse_error.Memory same r = tt

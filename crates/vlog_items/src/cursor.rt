@@ -1,6 +1,8 @@
-ghost use Rattle.std.specs.Prelude.{◌≡◌, length};
-ghost use Rattle.parsing.specs.Reading.{Reads, stands, next, after, scan};
-ghost use Rattle.vlog_grammar.specs.Grammar.{V};
+ghost use Rattle.std.specs.Prelude.{◌≡◌, length, if◌then◌else◌};
+ghost use Rattle.parsing.specs.declared.fault.Fault.TheVariants.{Expected, TooDeep};
+ghost use Rattle.parsing.specs.Reading.{Reads, stands, begins, next, after};
+ghost use Rattle.vlog_grammar.specs.declared.level.Sort.TheVariants as sort;
+ghost use Rattle.vlog_grammar.specs.Grammar.{V, firsts};
 ghost use Rattle.vlog_items.specs.Reading.{passed};
 
 use parsing::Fault;
@@ -108,5 +110,36 @@ impl<'a, 't> Cursor<'a, 't> {
     {
         self.wanted = what;
         Fault::Expected(self.left())
+    }
+
+    /// Whether a statement begins with the next token.
+    pub fn is_statement(&self) -> bool
+        ensures { result ≡ begins V (firsts sort.Stmt) self.now }
+    {
+        self.stands(Word::Name) || self.stands(Word::If) || self.stands(Word::Begin)
+    }
+
+    /// Why nothing that begins with this word and needs a level below stands here, where there is none.
+    pub fn no_level(&mut self, word: Word, what: &'static [u8]) -> Fault
+        ensures fault { result ≡ (if stands V word self.old then TooDeep (length self.old) else Expected (length self.old)) }
+        ensures kept { self.new ≡ self.old }
+    {
+        if self.stands(word) {
+            Fault::TooDeep(self.left())
+        } else {
+            self.refuse(what)
+        }
+    }
+
+    /// Why no statement stands here, where no level is left.
+    pub fn no_statement(&mut self) -> Fault
+        ensures fault { result ≡ (if begins V (firsts sort.Stmt) self.old then TooDeep (length self.old) else Expected (length self.old)) }
+        ensures kept { self.new ≡ self.old }
+    {
+        if self.is_statement() {
+            Fault::TooDeep(self.left())
+        } else {
+            self.refuse(b"statement")
+        }
     }
 }

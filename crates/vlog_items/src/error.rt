@@ -7,6 +7,9 @@ pub enum ParseError {
     /// No text of the grammar begins with the tokens up to the one at this place, or, one byte past the
     /// text, the text ends too early. The name says what was expected.
     Expected { at: Place, what: Name },
+    /// More than 256 levels are needed from the token at this place on: some text of the grammar begins with
+    /// the tokens up to it, and none of at most 256 levels does.
+    TooDeep { at: Place },
     /// Memory ran out.
     Memory,
 }

@@ -1,28 +1,18 @@
 ghost use Rattle.parsing.specs.Reading.{Reads};
 ghost use Rattle.std.specs.Prelude.{length};
 ghost use Rattle.vlog_grammar.specs.Grammar as grammar;
+ghost use Rattle.vlog_grammar.specs.Grammar.{maybe};
 ghost use Rattle.vlog_items.specs.Reading.{read_by, more_ports};
 
 use crate::cursor::Cursor;
+use crate::expr::MAX_LEVELS;
+use crate::leaf::{ident, number};
+use crate::stmt::stmt;
 use parsing::Fault;
 use sqlite_items::Items;
 use std::alloc::Global;
 use vlog_lex::Word;
-use vlog_tree::{
-    Always, Direction, Edge, Event, Expr, Ident, Item, Module, NetKind, Nonblocking, Port, Stmt,
-    Target, Tree,
-};
-use word_core::Name;
-
-#[tactic(auto, unfolding(vlog_grammar::specs::Grammar::ident))]
-fn ident(alloc: Global, cursor: &mut Cursor<'_, '_>) -> Result<Ident, Fault>
-    ensures { Reads (read_by grammar.ident cursor.old) result cursor.new }
-{
-    let at = cursor.place();
-    let name = Name::make(alloc, cursor.text())?;
-    cursor.expect(Word::Name, b"name")?;
-    Ok(Ident { at, name })
-}
+use vlog_tree::{Always, Direction, Edge, Event, Expr, Item, Module, NetKind, Port, Tree};
 
 #[tactic(auto, unfolding(vlog_grammar::specs::Grammar::input))]
 fn input(alloc: Global, cursor: &mut Cursor<'_, '_>) -> Result<Port, Fault>
@@ -36,7 +26,20 @@ fn input(alloc: Global, cursor: &mut Cursor<'_, '_>) -> Result<Port, Fault>
         direction: Direction::Input,
         kind: None,
         name,
+        value: None,
     })
+}
+
+#[tactic(auto, unfolding(vlog_grammar::specs::Grammar::start_value))]
+fn start_value(alloc: Global, cursor: &mut Cursor<'_, '_>) -> Result<Option<Expr>, Fault>
+    ensures { Reads (read_by (maybe grammar.start_value) cursor.old) result cursor.new }
+{
+    if !cursor.stands(Word::Equals) {
+        return Ok(None);
+    }
+    cursor.expect(Word::Equals, b"=")?;
+    let value = number(alloc, cursor)?;
+    Ok(Some(value))
 }
 
 #[tactic(auto, unfolding(vlog_grammar::specs::Grammar::output))]
@@ -47,11 +50,13 @@ fn output(alloc: Global, cursor: &mut Cursor<'_, '_>) -> Result<Port, Fault>
     cursor.expect(Word::Output, b"port")?;
     cursor.expect(Word::Reg, b"reg")?;
     let name = ident(alloc, cursor)?;
+    let value = start_value(alloc, cursor)?;
     Ok(Port {
         at,
         direction: Direction::Output,
         kind: Some(NetKind::Reg),
         name,
+        value,
     })
 }
 
@@ -134,21 +139,6 @@ fn events(alloc: Global, cursor: &mut Cursor<'_, '_>) -> Result<Items<Event>, Fa
     Ok(found)
 }
 
-#[tactic(auto, unfolding(vlog_grammar::specs::Grammar::statement))]
-fn statement(alloc: Global, cursor: &mut Cursor<'_, '_>) -> Result<Stmt, Fault>
-    ensures { Reads (read_by grammar.statement cursor.old) result cursor.new }
-{
-    let target = ident(alloc, cursor)?;
-    cursor.expect(Word::AtMost, b"<=")?;
-    let value = ident(alloc, cursor)?;
-    cursor.expect(Word::Semicolon, b";")?;
-    Ok(Stmt::Nonblocking(Nonblocking {
-        at: target.at,
-        target: Target::Name(target),
-        value: Expr::Name(value),
-    }))
-}
-
 #[tactic(auto, unfolding(vlog_grammar::specs::Grammar::always))]
 fn always(alloc: Global, cursor: &mut Cursor<'_, '_>) -> Result<Item, Fault>
     ensures { Reads (read_by grammar.always cursor.old) result cursor.new }
@@ -156,8 +146,12 @@ fn always(alloc: Global, cursor: &mut Cursor<'_, '_>) -> Result<Item, Fault>
     let at = cursor.place();
     cursor.expect(Word::Always, b"always")?;
     let events = events(alloc, cursor)?;
-    let body = statement(alloc, cursor)?;
-    Ok(Item::Always(Always { at, events, body }))
+    let body = stmt(alloc, cursor, MAX_LEVELS)?;
+    Ok(Item::Always(Always {
+        at,
+        events,
+        body: body.tree,
+    }))
 }
 
 /// The items of a module.

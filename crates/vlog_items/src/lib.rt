@@ -3,7 +3,10 @@
 
 mod cursor;
 mod error;
+mod expr;
 mod items;
+mod leaf;
+mod stmt;
 mod text;
 
 pub use error::{ParseError, TextError};

@@ -1,14 +1,14 @@
 -- A text divides into tokens in one way.
-use Rattle.std.proofs.Common.{◌≡◌, ℕ, ◌==◌, Bool, true, false, not, ◌||◌, ◌&&◌, ◌⊎◌, inl, inr, List, [], ◌∷◌, ◌++◌, refl, sym, ◌∙◌, ap, subst, codes}
+use Rattle.std.proofs.Common.{◌≡◌, ℕ, ◌==◌, Bool, true, false, not, ◌||◌, ◌&&◌, ◌⊎◌, inl, inr, List, [], ◌∷◌, ◌++◌, refl, sym, ◌∙◌, ap, subst}
 use Rattle.std.proofs.lemmas.Bool.{eqb-true}
 use Rattle.std.proofs.lemmas.List.{append-nil}
 use Rattle.std.specs.List.{list_all}
-use Rattle.std.specs.Str.{bytes_eq}
 use Rattle.word_core.specs.declared.place.Place.{Place}
 use Rattle.vlog_lex.specs.Bytes.{is_blank, goes_on}
 use Rattle.vlog_lex.specs.Places.{past}
-use Rattle.vlog_lex.specs.Tokens.{Token, is_token, IsLongest, Divides, none, blank, next}
-use Rattle.vlog_lex.proofs.Longest.{differ, split_and, split_or, begins_word, mark_first}
+use Rattle.vlog_lex.specs.Tokens.{Token, is_sign, is_token, IsLongest, Divides, none, blank, next}
+use Rattle.vlog_lex.proofs.Numbers.{differ, split_or}
+use Rattle.vlog_lex.proofs.Longest.{split_and, begins_word, sign_first}
 
 -- ---- a token begins with no blank
 
@@ -39,9 +39,9 @@ solid b [] t = from_not (is_blank b) t
     from_not : (v : Bool) → not v ≡ true → v ≡ false
     from_not true e = sym e
     from_not false e = refl
-solid b (c ∷ cs) t = elim (split_or (begins_word b && list_all goes_on (c ∷ cs)) (bytes_eq (b ∷ c ∷ cs) (codes "<=")) t) [
+solid b (c ∷ cs) t = elim (split_or (begins_word b && list_all goes_on (c ∷ cs)) (is_sign (b ∷ c ∷ cs)) t) [
   | inl h ↦ solid_word b (split_and (begins_word b) (list_all goes_on (c ∷ cs)) h).0
-  | inr h ↦ subst (λ z. is_blank z ≡ false) (sym (mark_first b (c ∷ cs) h)) refl
+  | inr h ↦ elim (sign_first b (c ∷ cs) h) [ inl e ↦ subst (λ z. is_blank z ≡ false) (sym e) refl | inr e ↦ subst (λ z. is_blank z ≡ false) (sym e) refl ]
 ]
 
 -- ---- two ways to cut a list

@@ -1,5 +1,6 @@
--- Which bytes are blanks, and which make names (IEEE 1364-2001 clauses 2.2 and 2.7).
-use Rattle.std.specs.Prelude.{ℕ, Bool, ◌||◌, ◌==◌}
+-- Which bytes are blanks, and which make names and numbers (IEEE 1364-2001 clauses 2.2, 2.5 and 2.7).
+use Rattle.std.specs.Prelude.{ℕ, Bool, ◌||◌, ◌==◌, List, codes}
+use Rattle.std.specs.Str.{bytes_eq}
 use Rattle.std.specs.Char.{is_ascii_alphabetic, is_ascii_alphanumeric}
 
 -- space, tab, line feed, form feed, carriage return
@@ -13,3 +14,7 @@ begins_name b = is_ascii_alphabetic b || b == 95
 -- a letter, a digit, `_` or `$`
 abbrev pub goes_on : ℕ → Bool
 goes_on b = is_ascii_alphanumeric b || b == 95 || b == 36
+
+-- a number of one bit
+abbrev pub is_number : List ℕ → Bool
+is_number text = bytes_eq text (codes "1'b0") || bytes_eq text (codes "1'b1")

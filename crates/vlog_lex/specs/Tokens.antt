@@ -1,9 +1,9 @@
 -- How a text divides into tokens (IEEE 1364-2001 clause 2.1).
-use Rattle.std.specs.Prelude.{◌≡◌, ℕ, suc, ◌==◌, Bool, true, false, not, ◌||◌, ◌&&◌, List, [], ◌∷◌, ◌++◌, if◌then◌else◌, codes}
+use Rattle.std.specs.Prelude.{◌≡◌, ℕ, suc, ◌==◌, Bool, true, false, not, ◌||◌, ◌&&◌, List, [], ◌∷◌, ◌++◌, take, if◌then◌else◌, codes}
 use Rattle.std.specs.List.{prefix_len, list_all}
 use Rattle.std.specs.Str.{bytes_eq}
 use Rattle.word_core.specs.declared.place.Place.{Place}
-use Rattle.vlog_lex.specs.Bytes.{is_blank, begins_name, goes_on}
+use Rattle.vlog_lex.specs.Bytes.{is_blank, begins_name, goes_on, is_number}
 use Rattle.vlog_lex.specs.Places.{past}
 
 -- a slice of the text, and the place of its first byte
@@ -11,11 +11,15 @@ pub record Token : Type 0 where
   pub text : List ℕ
   pub at : Place
 
--- Whether the bytes can be a token: one byte that is no blank; a letter, `_` or `$` with further letters, digits, `_` and `$`; or `<=`.
+-- a mark of more bytes than one, or a number
+abbrev pub is_sign : List ℕ → Bool
+is_sign text = bytes_eq text (codes "<=") || is_number text
+
+-- Whether the bytes can be a token: one byte that is no blank; a letter, `_` or `$` with further letters, digits, `_` and `$`; `<=`; or a number.
 abbrev pub is_token : List ℕ → Bool
 is_token [] = false
 is_token (b ∷ []) = not (is_blank b)
-is_token (b ∷ c ∷ cs) = ((begins_name b || b == 36) && list_all goes_on (c ∷ cs)) || bytes_eq (b ∷ c ∷ cs) (codes "<=")
+is_token (b ∷ c ∷ cs) = ((begins_name b || b == 36) && list_all goes_on (c ∷ cs)) || is_sign (b ∷ c ∷ cs)
 
 -- Of several tokens that could begin here, this is the longest.
 pub record IsLongest (taken rest : List ℕ) : Type 0 where
@@ -36,4 +40,4 @@ mark_length b (c ∷ cs) = if b == 60 && c == 61 then 2 else 1
 
 abbrev pub token_length : List ℕ → ℕ
 token_length [] = 0
-token_length (b ∷ bs) = if begins_name b || b == 36 then suc (prefix_len goes_on bs) else mark_length b bs
+token_length (b ∷ bs) = if begins_name b || b == 36 then suc (prefix_len goes_on bs) else if is_number (take 4 (b ∷ bs)) then 4 else mark_length b bs

@@ -3,7 +3,7 @@ ghost use Rattle.vlog_lex.specs.Tokens as spec;
 ghost use Rattle.vlog_lex.specs.Tokens.{Divides};
 ghost use Rattle.vlog_lex.specs.Places.{start};
 
-use crate::bytes::{begins_name, is_blank, name_end};
+use crate::bytes::{NUMBER_LENGTH, begins_name, begins_number, is_blank, name_end};
 use crate::place::{START, past};
 use crate::token::Token;
 use sqlite_items::Items;
@@ -23,6 +23,8 @@ fn token_length(text: &[u8]) -> usize
         [first, more @ ..] => {
             if begins_name(*first) || *first == b'$' {
                 1 + name_end(more)
+            } else if begins_number(text) {
+                NUMBER_LENGTH
             } else {
                 mark_length(*first, more)
             }
@@ -31,7 +33,7 @@ fn token_length(text: &[u8]) -> usize
     }
 }
 
-/// The same where the text begins with this byte, which begins no name.
+/// The same where the text begins with this byte, which begins no name and no number.
 fn mark_length(first: u8, more: &[u8]) -> usize
     ensures value { result ≡ spec.mark_length first more.now }
     ensures within { result ≤ length more.now + 1 }
@@ -73,16 +75,17 @@ mod tests {
     use std::test::Fail;
 
     /// The tokens of the text below: their bytes, what they are, and where they stand.
-    const TEXT: &[u8] = b"module a$1\n<=<\t$f ;9";
+    const TEXT: &[u8] = b"module a$1\n<=<\t$f 1'b01'";
 
-    const TOKENS: [(&[u8], Word, u32, u32); 7] = [
+    const TOKENS: [(&[u8], Word, u32, u32); 8] = [
         (b"module", Word::Module, 1, 1),
         (b"a$1", Word::Name, 1, 8),
         (b"<=", Word::AtMost, 2, 1),
         (b"<", Word::Other, 2, 3),
         (b"$f", Word::Other, 2, 5),
-        (b";", Word::Semicolon, 2, 8),
-        (b"9", Word::Other, 2, 9),
+        (b"1'b0", Word::Number, 2, 8),
+        (b"1", Word::Other, 2, 12),
+        (b"'", Word::Other, 2, 13),
     ];
 
     fn is(token: &Token<'_>, text: &[u8], word: Word, at: Place) -> bool {

@@ -1,7 +1,7 @@
 ghost use Rattle.std.specs.Prelude.{◌≡◌, map};
 ghost use Rattle.vlog_lex.specs.Words as spec;
 
-use crate::bytes::begins_name;
+use crate::bytes::{begins_name, is_number};
 
 /// What a token is to the grammar.
 #[derive(Clone, Copy, Debug, PartialEq, Eq)]
@@ -20,12 +20,23 @@ pub enum Word {
     Semicolon,
     At,
     AtMost,
+    Equals,
+    Bar,
+    Caret,
+    Ampersand,
+    Tilde,
+    If,
+    Else,
+    Begin,
+    End,
+    /// `1'b0` or `1'b1`: the text of the token says which.
+    Number,
     /// Any other token: a keyword or a mark that no rule uses.
     Other,
 }
 
 /// The keywords and marks, and what each of them is to the grammar.
-pub const SPELLINGS: [(&[u8], Word); 59] = [
+pub const SPELLINGS: [(&[u8], Word); 64] = [
     (b"module", Word::Module),
     (b"endmodule", Word::Endmodule),
     (b"input", Word::Input),
@@ -39,6 +50,15 @@ pub const SPELLINGS: [(&[u8], Word); 59] = [
     (b";", Word::Semicolon),
     (b"@", Word::At),
     (b"<=", Word::AtMost),
+    (b"=", Word::Equals),
+    (b"|", Word::Bar),
+    (b"^", Word::Caret),
+    (b"&", Word::Ampersand),
+    (b"~", Word::Tilde),
+    (b"if", Word::If),
+    (b"else", Word::Else),
+    (b"begin", Word::Begin),
+    (b"end", Word::End),
     (b"parameter", Word::Other),
     (b"wire", Word::Other),
     (b"localparam", Word::Other),
@@ -48,16 +68,12 @@ pub const SPELLINGS: [(&[u8], Word); 59] = [
     (b"genvar", Word::Other),
     (b"assign", Word::Other),
     (b"for", Word::Other),
-    (b"begin", Word::Other),
-    (b"if", Word::Other),
-    (b"else", Word::Other),
     (b"negedge", Word::Other),
     (b"or", Word::Other),
     (b"case", Word::Other),
     (b"casez", Word::Other),
     (b"endcase", Word::Other),
     (b"default", Word::Other),
-    (b"end", Word::Other),
     (b"initial", Word::Other),
     (b"task", Word::Other),
     (b"function", Word::Other),
@@ -101,7 +117,7 @@ fn lookup(mut table: &[(&[u8], Word)], text: &[u8]) -> Option<Word>
 }
 
 /// What a token with this text is to the grammar. The time is linear in the text.
-#[tactic(auto, unfolding(crate::specs::Words::spelled, crate::specs::Words::word_of))]
+#[tactic(auto, using(crate::proofs::Table::table_is), unfolding(crate::specs::Words::spelled, crate::specs::Words::word_of))]
 pub fn word_of(text: &[u8]) -> Word
     ensures { result ≡ spec.word_of text.now }
 {
@@ -115,6 +131,9 @@ pub fn word_of(text: &[u8]) -> Word
 fn unspelled(text: &[u8]) -> Word
     ensures { result ≡ spec.unspelled text.now }
 {
+    if is_number(text) {
+        return Word::Number;
+    }
     match text {
         [first, ..] if begins_name(*first) => Word::Name,
         _ => Word::Other,

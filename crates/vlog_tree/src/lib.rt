@@ -1,10 +1,10 @@
 //! The syntax tree of a Verilog text: one type for each rule of the grammar.
 //!
 //! The fields of a type are the parts of its rule, in order, and `at` is the place of the rule's first token.
-//! Alternatives of a rule are variants.
+//! Alternatives of a rule are variants. A rule that hands on its one part makes no node.
 #![tactic(auto)]
 
-use sqlite_items::Items;
+use sqlite_items::{Boxed, Items};
 use word_core::{Name, Place};
 
 /// A text: its modules, in the order in which they stand.
@@ -51,6 +51,8 @@ pub struct Port {
     /// None where no kind is written.
     pub kind: Option<NetKind>,
     pub name: Ident,
+    /// The value that it starts with, behind `=`.
+    pub value: Option<Expr>,
 }
 
 /// What stands in a module behind its ports.
@@ -84,16 +86,26 @@ pub enum Edge {
 
 /// A statement.
 #[derive(Debug, Drop)]
+#[cycle(stmt)]
 pub enum Stmt {
-    Nonblocking(Nonblocking),
-}
-
-/// `TARGET <= VALUE ;` (IEEE 1364-2001 clause 9.2.2).
-#[derive(Debug, Drop)]
-pub struct Nonblocking {
-    pub at: Place,
-    pub target: Target,
-    pub value: Expr,
+    /// `TARGET <= VALUE ;` (IEEE 1364-2001 clause 9.2.2).
+    Nonblocking {
+        at: Place,
+        target: Target,
+        value: Expr,
+    },
+    /// `if ( CONDITION ) YES [ else NO ]` (IEEE 1364-2001 clause 9.4).
+    If {
+        at: Place,
+        condition: Expr,
+        yes: Boxed<Stmt>,
+        no: Option<Boxed<Stmt>>,
+    },
+    /// `begin STATEMENTS end` (IEEE 1364-2001 clause 9.8.1).
+    Block {
+        at: Place,
+        statements: Items<Stmt>,
+    },
 }
 
 /// The left side of an assignment.
@@ -102,8 +114,59 @@ pub enum Target {
     Name(Ident),
 }
 
+/// A number, as it is written (IEEE 1364-2001 clause 2.5).
+#[derive(Debug, Drop)]
+pub struct Number {
+    pub at: Place,
+    pub text: Name,
+}
+
 /// An expression (IEEE 1364-2001 clause 4).
 #[derive(Debug, Drop)]
+#[cycle(expr)]
 pub enum Expr {
+    Number(Number),
     Name(Ident),
+    /// `( INNER )`
+    Paren {
+        at: Place,
+        inner: Boxed<Expr>,
+    },
+    Unary {
+        at: Place,
+        op: UnaryOp,
+        value: Boxed<Expr>,
+    },
+    /// Two operands or more, with operators of one level between them.
+    Row {
+        at: Place,
+        first: Boxed<Expr>,
+        others: Items<Operand>,
+    },
+}
+
+/// An operator of a row, and the operand behind it.
+#[derive(Debug, Drop)]
+#[cycle(expr)]
+pub struct Operand {
+    pub op: BinaryOp,
+    pub value: Expr,
+}
+
+/// An operator on one operand (IEEE 1364-2001 clause 4.1).
+#[derive(Clone, Copy, Debug, PartialEq, Eq)]
+pub enum UnaryOp {
+    /// `~`
+    Not,
+}
+
+/// An operator between operands (IEEE 1364-2001 clause 4.1).
+#[derive(Clone, Copy, Debug, PartialEq, Eq)]
+pub enum BinaryOp {
+    /// `&`
+    And,
+    /// `^`
+    Xor,
+    /// `|`
+    Or,
 }

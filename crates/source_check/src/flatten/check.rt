@@ -1,11 +1,11 @@
 // Whether a module has a design.
 
 ghost use Rattle.std.specs.Prelude.{◌≡◌, ◌<◌, ◌≤◌, ◌+◌, ◌↔◌, All, IsTrue, MatchOption};
-ghost use Rattle.source_check.specs.Statements.{names_read, names_in_target, assigned_by, read_by, body_of, assignments_of, all_assignments};
-ghost use Rattle.source_check.specs.Built.{IsReg, AreReadable, IsPlainPort, IsClockedBy, IsBuiltItem};
+ghost use Rattle.source_check.specs.Statements.{leaves_of, names_in_target, parts_of, body_of, assignments_in, all_parts};
+ghost use Rattle.source_check.specs.Built.{IsReg, IsBit, IsStart, IsReadable, IsPlainPort, IsClockedBy, IsBuiltPart, IsBuiltItem};
 
 use crate::flatten::ports::{Ports, leads_in};
-use vlog_tree::{Always, Edge, Event, Expr, Item, NetKind, Port, Stmt, Target};
+use vlog_tree::{Always, Edge, Event, Expr, Item, NetKind, Number, Port, Stmt, Target};
 use word_core::Name;
 
 /// The greatest number of declared bits.
@@ -14,14 +14,35 @@ pub const BIT_LIMIT: usize = 65_536;
 /// The greatest number of statements.
 const STATEMENT_LIMIT: u32 = 65_536;
 
-/// Whether a port is written `input NAME` or `output reg NAME`.
+/// Whether a number is one bit, written `1'b0` or `1'b1`.
+fn is_bit(number: &Number) -> bool
+    ensures { IsTrue result ↔ IsBit number.now.text }
+{
+    if number.text.bytes() == b"1'b0".as_slice() {
+        return true;
+    }
+    number.text.bytes() == b"1'b1".as_slice()
+}
+
+/// Whether the value behind a declared name, if there is one, is a number of one bit.
+fn is_start(value: &Option<Expr>) -> bool
+    ensures { IsTrue result ↔ IsStart value.now }
+{
+    match value {
+        None => true,
+        Some(Expr::Number(number)) => is_bit(number),
+        Some(_) => false,
+    }
+}
+
+/// Whether a port is written `input NAME`, `output reg NAME`, or so with a bit that it starts with.
 fn is_plain_port(port: &Port) -> bool
     ensures { IsTrue result ↔ IsPlainPort port.now }
 {
     match port.kind {
-        None => leads_in(port.direction),
+        None => leads_in(port.direction) && port.value.is_none(),
         Some(NetKind::Wire) => false,
-        Some(NetKind::Reg) => !leads_in(port.direction),
+        Some(NetKind::Reg) => !leads_in(port.direction) && is_start(&port.value),
     }
 }
 
@@ -37,12 +58,31 @@ pub fn are_plain_ports(ports: &[Port]) -> bool
     true
 }
 
-/// Whether an expression reads ports, and not the clock.
-fn reads_ports(ports: &Ports, clock: &Name, expr: &Expr) -> bool
-    ensures { IsTrue result ↔ AreReadable ports.now clock.now (names_read expr.now) }
+/// Whether an expression has ports but the clock, and numbers of one bit.
+fn is_readable(ports: &Ports, clock: &Name, expr: &Expr) -> bool
+    ensures { IsTrue result ↔ All (IsReadable ports.now clock.now) (leaves_of expr.now) }
 {
     match expr {
+        Expr::Number(number) => is_bit(number),
         Expr::Name(ident) => ports.has(&ident.name) && ident.name != *clock,
+        Expr::Paren { at: _, inner } => is_readable(ports, clock, inner.get()),
+        Expr::Unary {
+            at: _,
+            op: _,
+            value,
+        } => is_readable(ports, clock, value.get()),
+        Expr::Row {
+            at: _,
+            first,
+            others,
+        } => {
+            for other in others.as_slice() {
+                if !is_readable(ports, clock, &other.value) {
+                    return false;
+                }
+            }
+            is_readable(ports, clock, first.get())
+        }
     }
 }
 
@@ -55,21 +95,41 @@ fn targets_regs(ports: &Ports, target: &Target) -> bool
     }
 }
 
-/// Whether a statement assigns `reg` ports.
-fn assigns_regs(ports: &Ports, stmt: &Stmt) -> bool
-    ensures { IsTrue result ↔ All (IsReg ports.now) (assigned_by stmt.now) }
+/// Whether a statement assigns `reg` ports, and reads ports but the clock.
+fn is_built_stmt(ports: &Ports, clock: &Name, stmt: &Stmt) -> bool
+    ensures { IsTrue result ↔ All (IsBuiltPart ports.now clock.now) (parts_of stmt.now) }
 {
     match stmt {
-        Stmt::Nonblocking(s) => targets_regs(ports, &s.target),
-    }
-}
-
-/// Whether a statement reads ports, and not the clock.
-fn stmt_reads_ports(ports: &Ports, clock: &Name, stmt: &Stmt) -> bool
-    ensures { IsTrue result ↔ AreReadable ports.now clock.now (read_by stmt.now) }
-{
-    match stmt {
-        Stmt::Nonblocking(s) => reads_ports(ports, clock, &s.value),
+        Stmt::Nonblocking {
+            at: _,
+            target,
+            value,
+        } => targets_regs(ports, target) && is_readable(ports, clock, value),
+        Stmt::If {
+            at: _,
+            condition,
+            yes,
+            no,
+        } => {
+            if !is_readable(ports, clock, condition) {
+                return false;
+            }
+            if !is_built_stmt(ports, clock, yes.get()) {
+                return false;
+            }
+            match no {
+                None => true,
+                Some(no) => is_built_stmt(ports, clock, no.get()),
+            }
+        }
+        Stmt::Block { at: _, statements } => {
+            for s in statements.as_slice() {
+                if !is_built_stmt(ports, clock, s) {
+                    return false;
+                }
+            }
+            true
+        }
     }
 }
 
@@ -114,10 +174,7 @@ fn is_built_item(ports: &Ports, clock: &Name, item: &Item) -> bool
     if !is_clocked_by(clock, item) {
         return false;
     }
-    if !assigns_regs(ports, body(item)) {
-        return false;
-    }
-    stmt_reads_ports(ports, clock, body(item))
+    is_built_stmt(ports, clock, body(item))
 }
 
 /// Whether all items are.
@@ -134,16 +191,36 @@ pub fn are_built_items(ports: &Ports, clock: &Name, items: &[Item]) -> bool
 
 /// The room that is left where a statement's assignments are taken from it, or none where it has more.
 fn room_after(stmt: &Stmt, room: u32) -> Option<u32>
-    ensures { MatchOption result (room < assignments_of stmt.now) (λ left. left + assignments_of stmt.now ≡ room) }
+    ensures { MatchOption result (room < assignments_in (parts_of stmt.now)) (λ left. left + assignments_in (parts_of stmt.now) ≡ room) }
 {
     match stmt {
-        Stmt::Nonblocking(_) => room.checked_sub(1),
+        Stmt::Nonblocking { .. } => room.checked_sub(1),
+        Stmt::If {
+            at: _,
+            condition: _,
+            yes,
+            no,
+        } => {
+            let left = room_after(yes.get(), room)?;
+            match no {
+                None => Some(left),
+                Some(no) => room_after(no.get(), left),
+            }
+        }
+        Stmt::Block { at: _, statements } => {
+            let mut left = room;
+            for s in statements.as_slice() {
+                let next = room_after(s, left)?;
+                left = next;
+            }
+            Some(left)
+        }
     }
 }
 
 /// How many assignments the items have, or none where they have more than the limit.
 pub fn statement_count(items: &[Item]) -> Option<u32>
-    ensures { MatchOption result (65536 < all_assignments items.now) (λ n. (n ≡ all_assignments items.now) × (n ≤ 65536)) }
+    ensures { MatchOption result (65536 < assignments_in (all_parts items.now)) (λ n. (n ≡ assignments_in (all_parts items.now)) × (n ≤ 65536)) }
 {
     let mut room = STATEMENT_LIMIT;
     for item in items {

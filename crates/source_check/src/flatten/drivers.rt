@@ -48,7 +48,33 @@ fn own_assigned(ports: &Ports, stmt: &Stmt, item: usize, owners: &mut [Option<us
     ensures clashes { result ≡ false → Clashes (port_names ports.now) (assigned_by stmt.now) item owners.old }
 {
     match stmt {
-        Stmt::Nonblocking(s) => own_target(ports, &s.target, item, owners),
+        Stmt::Nonblocking {
+            at: _,
+            target,
+            value: _,
+        } => own_target(ports, target, item, owners),
+        Stmt::If {
+            at: _,
+            condition: _,
+            yes,
+            no,
+        } => {
+            if !own_assigned(ports, yes.get(), item, owners) {
+                return false;
+            }
+            match no {
+                None => true,
+                Some(no) => own_assigned(ports, no.get(), item, owners),
+            }
+        }
+        Stmt::Block { at: _, statements } => {
+            for s in statements.as_slice() {
+                if !own_assigned(ports, s, item, owners) {
+                    return false;
+                }
+            }
+            true
+        }
     }
 }
 

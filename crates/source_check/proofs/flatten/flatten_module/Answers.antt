@@ -1,11 +1,12 @@
-use Rattle.std.proofs.Common.{◌≡◌, ◌∙◌, sym, ap, subst, List, length, ◌≤◌, arith}
-use Rattle.source_check.specs.Statements.{all_assignments}
+use Rattle.std.proofs.Common.{◌≡◌, ◌∙◌, sym, ap, subst, List, length, get_or, ◌≤◌, arith}
+use Rattle.source_check.specs.Statements.{assigned_by, body_of, assignments_in, all_parts}
 use Rattle.std.specs.Prelude.{All}
 use Rattle.std.proofs.lemmas.Bool.{false≢true}
 use Rattle.std.proofs.lemmas.Option.{MatchOption-at_none, MatchOption-at_some}
 use Rattle.vlog_tree.specs.declared.Port.{Port}
-use Rattle.source_check.specs.Built.{port_names, AreDistinct, IsInput, IsPlainPort, IsBuiltItem, HasOneDriver}
+use Rattle.source_check.specs.Built.{port_names, AreDistinct, IsInput, IsReg, IsPlainPort, IsBuiltItem, HasOneDriver}
 use Rattle.source_check.proofs.Lookup.{told_same}
+use Rattle.source_check.proofs.Owning.{assigned_regs}
 use Rattle.source_check.proofs.flatten.flatten_module.Goals as goal
 
 pub returns-in_default-2 : goal.returns-in_default-2
@@ -22,6 +23,13 @@ returns-then-not-are_built_items c = λ h.
     let clock = c.args.setup.now.clock in
     let all = subst (λ is. All (IsBuiltItem c.in-Some-2.ports clock) is) (sym c.as_slice-items.ensures) (subst (λ ps. All (IsBuiltItem ps clock) c.args.module.now.items) (sym same) h.items) in
     false≢true (sym c.if-not-are_built_items.true ∙ c.are_built_items.ensures.1 all)
+
+pub has_one_driver-requires : goal.has_one_driver-requires
+has_one_driver-requires c =
+    let built = c.are_built_items.ensures.0 c.if-not-are_built_items.false in
+    let known : All (λ i. All (IsReg c.in-Some-2.ports) (assigned_by (body_of i))) c.as_slice-items.result.now =
+    λ k i lt. assigned_regs c.in-Some-2.ports c.args.setup.now.clock (get_or c.as_slice-items.result.now k i) (built k i lt) in
+    record { known = known }
 
 pub returns : goal.returns
 returns c =
@@ -40,7 +48,8 @@ returns c =
             (subst (λ ps. HasOneDriver ps c.as_slice-items.result.now) same (c.in_ok-has_one_driver.ensures.0 c.if-not-branch.false));
         no_hold = c.is_empty.ensures.0 c.if-not-is_empty.false;
         few_bits = subst (λ ps. length ps ≤ 65536) c.as_slice-list.ensures c.if-list-gt-BIT_LIMIT.false;
-        few_statements = omega (arith, c.in-Some.ensures.0, c.in-Some.ensures.1, ap all_assignments c.as_slice-items.ensures);
+        few_statements = omega (arith, c.in-Some.ensures.0, c.in-Some.ensures.1, ap (λ is. assignments_in (all_parts is)) c.as_slice-items.ensures);
       },
-      c.in_ok-design.ensures,
+      c.in_ok-design.ensures.0,
+      c.in_ok-design.ensures.1,
     )

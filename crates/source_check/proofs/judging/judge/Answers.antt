@@ -4,14 +4,13 @@ use Rattle.design_core.specs.declared.flat.Design.{Design}
 use Rattle.source_check.specs.declared.points.Point.{Point}
 use Rattle.source_check.specs.Points.{points_of, IsSiteBelow}
 use Rattle.source_check.specs.Judging.{JudgesClaims}
-use Rattle.source_check.proofs.LegalDesigns.{few_sites, points_of_sites}
+use Rattle.source_check.proofs.LegalDesigns.{points_of_sites}
 use Rattle.source_check.proofs.OneByOne.{judged_by, if_judged}
 use Rattle.source_check.proofs.judging.judge.Goals as goal
 
 pub points-requires : goal.points-requires
 points-requires c =
-    let few = few_sites c.args.tree.now c.args.cert.now.setup c.in-Ok.legal.design c.in-Ok.ensures.0 in
-    omega (arith, ap (λ (d : Design). length d.sites) c.design.ensures.design)
+    omega (arith, c.in-Ok.ensures.1, ap (λ (d : Design). length d.sites) c.design.ensures.design)
 
 pub judge_claims-requires-clause-sites : goal.judge_claims-requires-clause-sites
 judge_claims-requires-clause-sites c =

@@ -5,4 +5,4 @@ use Rattle.source_check.proofs.legality.elaborate.Goals as goal
 
 pub make-requires : goal.make-requires
 make-requires c =
-    subst (IsLegal c.in_ok-design.design) (sym c.new.ensures) (text_design_is_legal c.args.tree.now c.args.setup.now c.in_ok-design.design c.in_ok-design.ensures)
+    subst (IsLegal c.in_ok-design.design) (sym c.new.ensures) (text_design_is_legal c.args.tree.now c.args.setup.now c.in_ok-design.design c.in_ok-design.ensures.0)

@@ -3,7 +3,7 @@ use Rattle.design_core.specs.declared.flat.SiteKind.TheVariants.{Assignment}
 use Rattle.design_core.specs.declared.flat.Site.{Site}
 use Rattle.source_check.specs.Flat.{sites_from}
 use Rattle.source_check.proofs.Numbering.{sites_more}
-use Rattle.source_check.proofs.flatten.build.sites.Goals as goal
+use Rattle.source_check.proofs.flatten.build.assignment_sites.Goals as goal
 
 pub loop-k-preserved : goal.loop-k-preserved
 loop-k-preserved c =
