@@ -162,7 +162,7 @@ module _ (names : List (List ℕ)) where
 
   -- a statement over bits
   abbrev pub stmt_of : tree_stmt.Stmt → Numbered Stmt
-  stmt_of = fold-Stmt (Numbered Stmt) stmt_step
+  stmt_of = fold-Stmt (Numbered Stmt) (stmt_step)
 
 -- ---- processes
 
