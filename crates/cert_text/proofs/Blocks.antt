@@ -1,22 +1,28 @@
 -- The laws of the blocks of a certificate, and of the whole.
-use Rattle.std.proofs.Common.{◌≡◌, ℕ, ◌+◌, ◌≤◌, Bool, List, [], ◌∷◌, ◌++◌, length, map, Ok, refl, ap, ◌∙◌, arith, lit<, ◌⊎◌, decimal, codes}
+use Rattle.std.proofs.Common.{◌≡◌, ℕ, zero, suc, ◌+◌, ◌^◌, ◌<◌, ◌≤◌, Bool, true, List, [], ◌∷◌, ◌++◌, length, map, Option, Some, None, option_map, Ok, refl, ap, subst, ◌∙◌, arith, lit<, ◌⊎◌, decimal, codes}
 use Rattle.std.specs.List.{flat_map}
 use Rattle.std.proofs.lemmas.List.{append-nil}
 use Rattle.design_core.specs.declared.setup.Setup.{Setup}
 use Rattle.design_core.specs.declared.setup.Stimulus.{Stimulus}
 use Rattle.cert_text.specs.declared.cert.Body.{Body}
-use Rattle.cert_text.specs.declared.cert.Body.TheVariants.{Reached}
+use Rattle.cert_text.specs.declared.cert.Body.TheVariants.{Reached, Excluded, Open}
+use Rattle.cert_text.specs.declared.body.Claimed.{Claimed}
+use Rattle.cert_text.specs.declared.body.Claimed.TheVariants.{HitAt, Never, NotWithin}
+use Rattle.cert_text.specs.declared.cert.NamedLadder.{NamedLadder}
 use Rattle.cert_text.specs.declared.cert.CertClaim.{CertClaim}
 use Rattle.cert_text.specs.declared.cert.Cert.{Cert}
-use Rattle.line_text.specs.Lines.{Line, Source, words}
-use Rattle.line_text.specs.Reading.{Read, ◌>>=◌, line_by, times, until}
+use Rattle.line_text.specs.Lines.{Line, Source, IsWord, IsLine, words}
+use Rattle.line_text.specs.Reading.{Read, ◌>>=◌, line_by, times, until, or_else}
 use Rattle.line_text.specs.Tagged.{tagged, numbered_of, exact_of, alone_of}
-use Rattle.line_text.proofs.Laws.{IsLineOf, IsReaderOf, law_then, law_done, law_as, law_here, law_times, law_until, spell_from, FitFrom, spell_until, FitUntil}
-use Rattle.line_text.proofs.Words.{law_tagged, law_either, spell_either, FitEither, law_alone, word_from, exact_reader, number_reader}
+use Rattle.line_text.proofs.Laws.{IsLineOf, IsReaderOf, some_is, law_line, law_then, law_done, law_as, law_here, law_times, law_until, spell_from, FitFrom, spell_until, FitUntil}
+use Rattle.line_text.proofs.Words.{law_tagged, law_number, law_either, spell_either, FitEither, law_alone, word_from, exact_reader, number_reader}
 use Rattle.cert_text.specs.Points.{IsName}
-use Rattle.cert_text.specs.Spelling.{bits_word, setup_lines, body_lines, claim_lines, cert_lines, plain_setup, FitsSetup, FitsBody, FitClaims, FitsAt}
-use Rattle.cert_text.specs.Certs.{named_of, point_of, bits_line_of, in_or_end, setup_at, stimulus_at, body_at, claim_from, claim_at, cert_at}
+use Rattle.cert_text.specs.Spelling.{bits_word, setup_lines, ladder_lines, body_lines, claim_lines, cert_lines, plain_setup, empty_ladder, FitsSetup, FitsCycles, FitsBody, FitClaims, FitsAt}
+use Rattle.cert_text.specs.Certs.{named_of, point_of, bits_line_of, in_or_end, setup_at, stimulus_at, head_of, behind_head, body_at, claim_from, claim_at, cert_at}
+use Rattle.cert_text.specs.Ladders.{tagged_pair_of, ladder_at, cycles_at}
 use Rattle.cert_text.proofs.Names.{named_reader}
+use Rattle.cert_text.proofs.ProofLaws.{FitsPair, pair_words, law_pair}
+use Rattle.cert_text.proofs.LadderLaws.{LadderOf, ladder_reader, CyclesOf, cycles_reader}
 use Rattle.cert_text.proofs.PointLaws.{IsPointText, point_reader}
 use Rattle.cert_text.proofs.BitLaws.{law_bits, bits_reader}
 
@@ -140,37 +146,118 @@ stimulus_reader = law_as (λ z. (tagged (codes "start") (bits_word z.start) ∷ 
 
 -- ---- bodies
 
-abbrev cycle_of : Body → ℕ
-cycle_of (Reached cycle stimulus) = cycle
+abbrev claimed_line : Claimed → Line
+claimed_line (HitAt cycle) = tagged (codes "reached") (decimal cycle)
+claimed_line (Never count) = tagged (codes "excluded") (decimal count)
+claimed_line (NotWithin cycles count) = (codes "open" ∷ []) ++ pair_words (cycles, count)
+
+abbrev ClaimedFits : Claimed → Type 0
+ClaimedFits (HitAt cycle) = cycle ≤ most
+ClaimedFits (Never count) = count ≤ most
+ClaimedFits (NotWithin cycles count) = FitsPair (cycles, count)
+
+number_law : (tag : List ℕ) → IsWord tag → IsLineOf (λ n. tagged tag (decimal n)) (λ n. n ≤ most) (numbered_of tag most)
+number_law tag w = law_tagged tag decimal (λ n. n ≤ most) _ w (law_number most (lit< tt))
+
+reached_law : IsLineOf (λ n. tagged (codes "reached") (decimal n)) (λ n. n ≤ most) (numbered_of (codes "reached") most)
+reached_law = number_law (codes "reached") (word_from (codes "reached") refl)
+
+excluded_law : IsLineOf (λ n. tagged (codes "excluded") (decimal n)) (λ n. n ≤ most) (numbered_of (codes "excluded") most)
+excluded_law = number_law (codes "excluded") (word_from (codes "excluded") refl)
+
+open_law : IsLineOf (λ p. (codes "open" ∷ []) ++ pair_words p) FitsPair (tagged_pair_of (codes "open"))
+open_law = law_pair (codes "open") (word_from (codes "open") refl)
+
+abbrev not_within : ℕ × ℕ → Claimed
+not_within p = NotWithin p.0 p.1
+
+claimed_by : (l : Line) (z : Claimed) (a b : Option ℕ) (c : Option (ℕ × ℕ)) → numbered_of (codes "reached") most l ≡ a → numbered_of (codes "excluded") most l ≡ b → tagged_pair_of (codes "open") l ≡ c
+    → or_else (option_map HitAt a) (or_else (option_map Never b) (option_map not_within c)) ≡ Some z → (l ≡ claimed_line z) × ClaimedFits z
+claimed_by l z (Some n) b c e g h w = subst (λ (y : Claimed). (l ≡ claimed_line y) × ClaimedFits y) (some_is (HitAt n) z w) (reached_law.takes l n e)
+claimed_by l z None (Some n) c e g h w = subst (λ (y : Claimed). (l ≡ claimed_line y) × ClaimedFits y) (some_is (Never n) z w) (excluded_law.takes l n g)
+claimed_by l z None None (Some p) e g h w = subst (λ (y : Claimed). (l ≡ claimed_line y) × ClaimedFits y) (some_is (not_within p) z w) (open_law.takes l p h)
+claimed_by l z None None None e g h w = absurd cc
+
+claimed_again : (z : Claimed) → ClaimedFits z → head_of (claimed_line z) ≡ Some z
+claimed_again (HitAt n) f = ap (λ (o : Option ℕ). or_else (option_map HitAt o) None) (reached_law.again n f)
+claimed_again (Never n) f = ap (λ (o : Option ℕ). or_else (option_map Never o) None) (excluded_law.again n f)
+claimed_again (NotWithin cycles n) f = ap (option_map not_within) (open_law.again (cycles, n) f)
+
+claimed_is_line : (z : Claimed) → ClaimedFits z → IsLine (claimed_line z)
+claimed_is_line (HitAt n) f = reached_law.line n f
+claimed_is_line (Never n) f = excluded_law.line n f
+claimed_is_line (NotWithin cycles n) f = open_law.line (cycles, n) f
+
+claimed_reader : IsReaderOf (λ z. claimed_line z ∷ []) (λ _ z. ClaimedFits z) (line_by head_of)
+claimed_reader = law_line claimed_line ClaimedFits head_of (record {
+  takes = λ l z e. claimed_by l z (numbered_of (codes "reached") most l) (numbered_of (codes "excluded") most l) (tagged_pair_of (codes "open") l) refl refl refl e;
+  again = claimed_again;
+  line = claimed_is_line;
+}) (HitAt 0, omega arith)
+
+-- what a body claims, and what stands behind the line that says so
+abbrev claimed : Body → Claimed
+claimed (Reached cycle stimulus) = HitAt cycle
+claimed (Excluded ladder) = Never (length ladder.lemmas)
+claimed (Open cycles ladder) = NotWithin cycles (length ladder.lemmas)
 
 abbrev stimulus_of : Body → Stimulus
 stimulus_of (Reached cycle stimulus) = stimulus
+stimulus_of (Excluded ladder) = make_stimulus [] []
+stimulus_of (Open cycles ladder) = make_stimulus [] []
 
-abbrev B2 : Body → List Line
-B2 z = stimulus_lines (stimulus_of z) ++ []
+abbrev ladder_of : Body → NamedLadder
+ladder_of (Reached cycle stimulus) = empty_ladder
+ladder_of (Excluded ladder) = ladder
+ladder_of (Open cycles ladder) = ladder
 
-abbrev H2 : ℕ → Body → Type 0
-H2 cycle z = Unit {0} × (z ≡ Reached cycle (stimulus_of z))
+abbrev rest_lines : Claimed → Body → List Line
+rest_lines (HitAt cycle) z = stimulus_lines (stimulus_of z) ++ []
+rest_lines (Never count) z = ladder_lines (ladder_of z) ++ []
+rest_lines (NotWithin cycles count) z = ladder_lines (ladder_of z) ++ []
 
-body2 : (cycle : ℕ) → IsReaderOf B2 (λ _ z. H2 cycle z) (λ s. stimulus_at s >>= λ stimulus. Ok (Reached cycle stimulus.0, stimulus.1))
-body2 cycle = law_then stimulus_lines (λ _ _. Unit {0}) stimulus_at (λ _ _. []) (λ stimulus _ z. z ≡ Reached cycle stimulus) (λ stimulus s. Ok (Reached cycle stimulus, s)) stimulus_of
-    stimulus_reader (λ n stimulus f. law_done (Reached cycle stimulus)) (λ stimulus n z f. ap stimulus_of f)
+abbrev RestFits : Claimed → Body → Type 0
+RestFits (HitAt cycle) z = Unit {0} × (z ≡ Reached cycle (stimulus_of z))
+RestFits (Never count) z = LadderOf true count (ladder_of z) × (z ≡ Excluded (ladder_of z))
+RestFits (NotWithin cycles count) z = CyclesOf cycles count (ladder_of z) × (z ≡ Open cycles (ladder_of z))
 
-body_same : (z : Body) → (tagged (codes "reached") (decimal (cycle_of z)) ∷ []) ++ B2 z ≡ body_lines z
-body_same (Reached cycle stimulus) = ap (λ (ls : List Line). tagged (codes "reached") (decimal cycle) ∷ ls) (append-nil (stimulus_lines stimulus))
+rest_law : (h : Claimed) → ClaimedFits h → IsReaderOf (rest_lines h) (λ _ z. RestFits h z) (behind_head h)
+rest_law (HitAt cycle) f = law_then stimulus_lines (λ _ _. Unit {0}) stimulus_at (λ _ _. []) (λ x _ z. z ≡ Reached cycle x) (λ x s. Ok (Reached cycle x, s)) stimulus_of stimulus_reader (λ n x g. law_done (Reached cycle x)) (λ x n z g. ap stimulus_of g)
+rest_law (Never count) f = law_then ladder_lines (λ _ x. LadderOf true count x) (ladder_at true count) (λ _ _. []) (λ x _ z. z ≡ Excluded x) (λ x s. Ok (Excluded x, s)) ladder_of (ladder_reader true count f) (λ n x g. law_done (Excluded x)) (λ x n z g. ap ladder_of g)
+rest_law (NotWithin cycles count) f = law_then ladder_lines (λ _ x. CyclesOf cycles count x) (cycles_at cycles count) (λ _ _. []) (λ x _ z. z ≡ Open cycles x) (λ x s. Ok (Open cycles x, s)) ladder_of (cycles_reader cycles count f.second f.none) (λ n x g. law_done (Open cycles x)) (λ x n z g. ap ladder_of g)
 
-body_to : (z : Body) → cycle_of z ≤ most → FitsBody z
-body_to (Reached cycle stimulus) le = omega (arith, le)
+claimed_is : (h : Claimed) (z : Body) → RestFits h z → claimed z ≡ h
+claimed_is (HitAt cycle) z f = ap claimed f.1
+claimed_is (Never count) z f = ap claimed f.1 ∙ ap Never f.0.counted
+claimed_is (NotWithin cycles count) z f = ap claimed f.1 ∙ ap (NotWithin cycles) f.0.1
 
-body_back : (z : Body) → FitsBody z → (cycle_of z ≤ most) × H2 (cycle_of z) z
+body_to : (z : Body) → ClaimedFits (claimed z) → RestFits (claimed z) z → FitsBody z
+body_to (Reached cycle stimulus) k f = omega (arith, k)
+body_to (Excluded ladder) k f = (f.0.fits, f.0.levels refl)
+body_to (Open cycles ladder) k f = (omega (arith, k.first), f.0.0)
+
+open_counts : (cycles : ℕ) (l : NamedLadder) → cycles < 2 ^ 63 → FitsCycles cycles l → FitsPair (cycles, length l.lemmas)
+open_counts zero l lt f =
+    let none : length l.lemmas ≡ 0 = ap (λ (y : NamedLadder). length y.lemmas) f in
+    record { first = omega arith; second = omega (arith, none); none = λ _. none }
+open_counts (suc k) l lt f = record { first = omega (arith, lt); second = omega (arith, f.count); none = λ e. absurd (omega (arith, e)) }
+
+body_back : (z : Body) → FitsBody z → ClaimedFits (claimed z) × RestFits (claimed z) z
 body_back (Reached cycle stimulus) lt = (omega (arith, lt), (tt, refl))
+body_back (Excluded ladder) f = (omega (arith, f.0.count), (record { fits = f.0; counted = refl; levels = λ _. f.1 }, refl))
+body_back (Open cycles ladder) f = (open_counts cycles ladder f.0 f.1, ((f.1, refl), refl))
+
+body_same : (z : Body) → (claimed_line (claimed z) ∷ []) ++ rest_lines (claimed z) z ≡ body_lines z
+body_same (Reached cycle stimulus) = ap (λ (ls : List Line). tagged (codes "reached") (decimal cycle) ∷ ls) (append-nil (stimulus_lines stimulus))
+body_same (Excluded ladder) = ap (λ (ls : List Line). tagged (codes "excluded") (decimal (length ladder.lemmas)) ∷ ls) (append-nil (ladder_lines ladder))
+body_same (Open cycles ladder) = ap (λ (ls : List Line). (codes "open" ∷ decimal cycles ∷ decimal (length ladder.lemmas) ∷ []) ∷ ls) (append-nil (ladder_lines ladder))
 
 body_reader : IsReaderOf body_lines (λ _ z. FitsBody z) body_at
 unfolding body_at
-body_reader = law_as (λ z. (tagged (codes "reached") (decimal (cycle_of z)) ∷ []) ++ B2 z) body_lines (λ _ z. (cycle_of z ≤ most) × H2 (cycle_of z) z) (λ _ z. FitsBody z) body_at
-    (law_then (λ k. tagged (codes "reached") (decimal k) ∷ []) (λ _ k. k ≤ most) (line_by (numbered_of (codes "reached") most)) (λ _ z. B2 z) (λ cycle _ z. H2 cycle z) (λ cycle s. stimulus_at s >>= λ stimulus. Ok (Reached cycle stimulus.0, stimulus.1)) cycle_of
-    (number_reader (codes "reached") most (word_from (codes "reached") refl) (lit< tt)) (λ n cycle f. body2 cycle) (λ cycle n z f. ap cycle_of f.1))
-    (λ n z f. body_same z) (λ n z f. body_to z f.0) (λ n z f. body_back z f)
+body_reader = law_as (λ z. (claimed_line (claimed z) ∷ []) ++ rest_lines (claimed z) z) body_lines (λ _ z. ClaimedFits (claimed z) × RestFits (claimed z) z) (λ _ z. FitsBody z) body_at
+    (law_then (λ h. claimed_line h ∷ []) (λ _ h. ClaimedFits h) (line_by head_of) rest_lines (λ h _ z. RestFits h z) behind_head claimed
+    claimed_reader (λ n h f. rest_law h f) (λ h n z f. claimed_is h z f))
+    (λ n z f. body_same z) (λ n z f. body_to z f.0 f.1) (λ n z f. body_back z f)
 
 -- ---- claims
 

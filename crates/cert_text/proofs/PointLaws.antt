@@ -151,7 +151,7 @@ arm_by kind name ordinal arm false true kb kr n o e =
     subst (λ (k : List ℕ). IsPoint (four k name ordinal arm)) (sym (same_bytes kind (codes "R") kr)) (subst (λ (a : List ℕ). IsPoint (four (codes "R") name ordinal a)) (sym (same_bytes arm (codes "all") e)) (all_operands name ordinal n o))
 arm_by kind name ordinal arm false false kb kr n o e = absurd cc
 
-four_is : (l : Line) (p : List ℕ × List ℕ × List ℕ × List ℕ) → four_of l ≡ Some p → l ≡ four p.0 p.1 p.2 p.3
+pub four_is : (l : Line) (p : List ℕ × List ℕ × List ℕ × List ℕ) → four_of l ≡ Some p → l ≡ four p.0 p.1 p.2 p.3
 four_is [] p e = absurd cc
 four_is (a ∷ ws) p e =
     let m = map_some {B = List ℕ × List ℕ × List ℕ × List ℕ} (λ q. (a, q.0, q.1, q.2)) (three_of ws) p e in

@@ -12,7 +12,7 @@ abbrev pub cert_error : LineError → CertError
 cert_error lines.Memory = Memory
 cert_error (lines.BadLine line) = BadCert line
 
--- The certificate that fits and is spelled so; or the first line with which no certificate begins; or nothing, where memory ran out.
+-- The certificate that fits and is spelled so; or the first line with which no certificate begins, or the line after the last line feed of a text that ends too early; or nothing, where memory ran out.
 abbrev pub CertAnswers : List ℕ → Result Cert CertError → Type 0
 CertAnswers text (Ok cert) = Fits cert × (text ≡ spelling cert)
 CertAnswers text (Err (BadCert line)) = IsFirstBad text line

@@ -1,20 +1,23 @@
 -- Reading a certificate.
-use Rattle.std.specs.Prelude.{ℕ, Bool, true, false, ◌⊎◌, List, [], ◌∷◌, ◌++◌, length, Option, Some, None, option_and_then, Result, Ok, ◌==◌, codes, if◌then◌else◌}
+use Rattle.std.specs.Prelude.{ℕ, Bool, true, false, ◌⊎◌, List, [], ◌∷◌, ◌++◌, length, Option, Some, None, option_map, option_and_then, Result, Ok, ◌==◌, codes, if◌then◌else◌}
 use Rattle.std.specs.List.{join_with_byte}
 use Rattle.std.specs.Str.{bytes_eq}
 use Rattle.design_core.specs.declared.setup.Setup.{Setup}
 use Rattle.design_core.specs.declared.setup.Stimulus.{Stimulus}
 use Rattle.cert_text.specs.declared.cert.Body.{Body}
-use Rattle.cert_text.specs.declared.cert.Body.TheVariants.{Reached}
+use Rattle.cert_text.specs.declared.cert.Body.TheVariants.{Reached, Excluded, Open}
+use Rattle.cert_text.specs.declared.body.Claimed.{Claimed}
+use Rattle.cert_text.specs.declared.body.Claimed.TheVariants.{HitAt, Never, NotWithin}
 use Rattle.cert_text.specs.declared.cert.CertClaim.{CertClaim}
 use Rattle.cert_text.specs.declared.cert.Cert.{Cert}
 use Rattle.line_text.specs.Lines.{Line, Source}
-use Rattle.line_text.specs.Reading.{Read, ◌>>=◌, line_by, times, until, either_of}
+use Rattle.line_text.specs.Reading.{Read, ◌>>=◌, line_by, times, until, or_else, either_of}
 use Rattle.line_text.specs.Tagged.{behind, numbered_of, exact_of, alone_of}
 use Rattle.line_text.specs.Texts.{whole_by}
 use Rattle.cert_text.specs.Points.{is_name}
 use Rattle.cert_text.specs.Tests.{is_point}
 use Rattle.cert_text.specs.Spelling.{plain_setup}
+use Rattle.cert_text.specs.Ladders.{tagged_pair_of, ladder_at, cycles_at}
 
 -- ---- lines
 
@@ -62,11 +65,20 @@ stimulus_at s = do
   inputs ← until in_or_end start.1
   Ok (record { start = start.0; lines = inputs.0.0 }, inputs.1)
 
+-- which verdict a line begins, with its numbers
+abbrev pub head_of : Line → Option Claimed
+head_of l = or_else (option_map HitAt (numbered_of (codes "reached") 9223372036854775807 l)) (or_else (option_map Never (numbered_of (codes "excluded") 9223372036854775807 l)) (option_map (λ p. NotWithin p.0 p.1) (tagged_pair_of (codes "open") l)))
+
+-- what stands behind that line
+abbrev pub behind_head : Claimed → Source → Read Body
+behind_head (HitAt cycle) s = stimulus_at s >>= λ stimulus. Ok (Reached cycle stimulus.0, stimulus.1)
+behind_head (Never count) s = ladder_at true count s >>= λ ladder. Ok (Excluded ladder.0, ladder.1)
+behind_head (NotWithin cycles count) s = cycles_at cycles count s >>= λ ladder. Ok (Open cycles ladder.0, ladder.1)
+
 unfoldable pub body_at : Source → Read Body
 body_at s = do
-  cycle ← line_by (numbered_of (codes "reached") 9223372036854775807) s
-  stimulus ← stimulus_at cycle.1
-  Ok (Reached cycle.0 stimulus.0, stimulus.1)
+  head ← line_by head_of s
+  behind_head head.0 head.1
 
 -- the claim that begins at line n
 unfoldable pub claim_from : ℕ → Source → Read CertClaim

@@ -1,5 +1,6 @@
 pub mod Points
 pub mod Spelling
 pub mod Tests
+pub mod Ladders
 pub mod Certs
 pub mod Answers

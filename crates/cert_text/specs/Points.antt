@@ -1,5 +1,5 @@
 -- The lines that name cover points.
-use Rattle.std.specs.Prelude.{◌≡◌, ℕ, ◌<◌, ◌^◌, Bool, true, ◌&&◌, List, [], ◌∷◌, ◌++◌, length, nat_le, nat_lt, codes, decimal}
+use Rattle.std.specs.Prelude.{◌≡◌, ℕ, ◌<◌, ◌^◌, Bool, true, false, not, ◌&&◌, ◌==◌, List, [], ◌∷◌, ◌++◌, length, nat_le, nat_lt, codes, decimal}
 use Rattle.std.specs.List.{list_all}
 use Rattle.line_text.specs.Lines.{Line}
 
@@ -12,6 +12,17 @@ is_name bs = nat_lt 0 (length bs) && list_all is_visible bs
 
 abbrev pub IsName : List ℕ → Type 0
 IsName bs = is_name bs ≡ true
+
+abbrev pub begins_with : ℕ → List ℕ → Bool
+begins_with byte [] = false
+begins_with byte (b ∷ bs) = b == byte
+
+-- the name of a state bit: - in front of it negates the literal
+abbrev pub is_state_name : List ℕ → Bool
+is_state_name bs = is_name bs && not (begins_with 45 bs)
+
+abbrev pub IsStateName : List ℕ → Type 0
+IsStateName bs = is_state_name bs ≡ true
 
 -- a number below a bound, in decimal digits
 abbrev pub IsNumber : ℕ → List ℕ → Type 0

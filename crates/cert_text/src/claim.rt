@@ -14,4 +14,8 @@ pub struct Claim {
 pub enum Verdict {
     /// The point is first hit at this cycle, counted from 0.
     Reached { cycle: u64 },
+    /// The point is hit in no run.
+    Excluded,
+    /// The point is hit in none of a run's first `cycles` cycles.
+    Open { cycles: u64 },
 }

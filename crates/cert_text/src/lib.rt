@@ -6,10 +6,13 @@ mod body;
 mod cert;
 mod claim;
 mod error;
+mod ladder;
+mod lemma;
+mod lrat;
 mod point;
 mod read;
 
-pub use cert::{Body, Cert, CertClaim};
+pub use cert::{Body, Cert, CertClaim, NamedLadder, NamedLemma, NamedLit};
 pub use claim::{Claim, Verdict};
 pub use error::CertError;
 pub use read::read_cert;

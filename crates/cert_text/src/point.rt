@@ -29,7 +29,8 @@ pub fn is_name(word: &[u8]) -> bool
     !word.is_empty() && are_visible(word)
 }
 
-fn four_words(line: &[u8]) -> Option<(&[u8], &[u8], &[u8], &[u8])>
+/// The words of a line that has four.
+pub fn four_words(line: &[u8]) -> Option<(&[u8], &[u8], &[u8], &[u8])>
     ensures { option_map (λ p. (p.0.now, p.1.now, p.2.now, p.3.now)) result ≡ four_of (words line.now) }
 {
     let (first, rest) = split_word(line);

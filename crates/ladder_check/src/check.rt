@@ -7,6 +7,7 @@ ghost use Rattle.bit_system.specs.Accepted.{starts_as, true_at_start, StepIsRefu
 ghost use Rattle.ladder_check.specs.Faults.{StartFailsAt, StepsFault, StepFails, HitFails, HitFault, IsLadderFault};
 
 use crate::fault::{LadderFault, Query, QueryFault};
+use crate::lent::LentLadder;
 use crate::proof::proof_fault;
 use crate::shape::is_shaped;
 use bit_system::{Ladder, Lemma, Memory, Proof, System, hit_query, step_query};
@@ -55,7 +56,7 @@ fn start_failure(system: &System, lemmas: &[Lemma]) -> Option<usize>
 fn step_fault(
     alloc: Global,
     system: &System,
-    ladder: &Ladder,
+    ladder: &LentLadder<'_>,
     place: usize,
     checker: &mut Checker,
 ) -> Result<Option<QueryFault>, Memory>
@@ -65,8 +66,8 @@ fn step_fault(
     ensures fault { IfOk result (λ f. MatchOption f (StepIsRefuted system.now ladder.now place) (StepFails system.now ladder.now place)) }
     ensures vars { checker.new.vars ≡ checker.old.vars }
 {
-    let query = step_query(alloc, system, ladder.lemmas.as_slice(), place as u64)?;
-    let steps = ladder.steps.as_slice();
+    let query = step_query(alloc, system, ladder.lemmas(), place as u64)?;
+    let steps = ladder.steps();
     let fault = proof_fault(alloc, checker, &query, &steps[place])?;
     Ok(fault)
 }
@@ -75,7 +76,7 @@ fn step_fault(
 fn check_steps(
     alloc: Global,
     system: &System,
-    ladder: &Ladder,
+    ladder: &LentLadder<'_>,
     checker: &mut Checker,
 ) -> Result<(), LadderFault>
     requires vars { checker.old.vars ≡ node_count system.now.graph }
@@ -84,7 +85,7 @@ fn check_steps(
     ensures fault { IfErr result (StepsFault system.now ladder.now) }
     ensures vars { checker.new.vars ≡ checker.old.vars }
 {
-    for place in 0..ladder.lemmas.len() {
+    for place in 0..ladder.lemmas().len() {
         if let Some(fault) = step_fault(alloc, system, ladder, place, checker)? {
             let query = Query::Step(place as u64 + 1);
             return Err(LadderFault::Line { query, fault });
@@ -98,7 +99,7 @@ fn hit_fault(
     alloc: Global,
     system: &System,
     point: u32,
-    ladder: &Ladder,
+    ladder: &LentLadder<'_>,
     proof: &Proof,
     checker: &mut Checker,
 ) -> Result<Option<QueryFault>, Memory>
@@ -108,7 +109,7 @@ fn hit_fault(
     ensures fault { IfOk result (λ f. MatchOption f (HitIsRefuted system.now point ladder.now proof.now) (HitFails system.now point ladder.now proof.now)) }
     ensures vars { checker.new.vars ≡ checker.old.vars }
 {
-    let query = hit_query(alloc, system, ladder.depth, ladder.lemmas.as_slice(), point)?;
+    let query = hit_query(alloc, system, ladder.depth(), ladder.lemmas(), point)?;
     let fault = proof_fault(alloc, checker, &query, proof)?;
     Ok(fault)
 }
@@ -118,7 +119,7 @@ fn check_hit(
     alloc: Global,
     system: &System,
     point: u32,
-    ladder: &Ladder,
+    ladder: &LentLadder<'_>,
     checker: &mut Checker,
 ) -> Result<(), LadderFault>
     requires vars { checker.old.vars ≡ node_count system.now.graph }
@@ -128,7 +129,7 @@ fn check_hit(
     ensures fault { IfErr result (HitFault system.now point ladder.now) }
     ensures vars { checker.new.vars ≡ checker.old.vars }
 {
-    let Some(proof) = &ladder.hit else {
+    let Some(proof) = ladder.hit() else {
         return Ok(());
     };
     if let Some(fault) = hit_fault(alloc, system, point, ladder, proof, checker)? {
@@ -168,7 +169,7 @@ pub fn check_ladder(
     ensures meaning { OnOk result (NeverHits system.now point ladder.now.depth) }
 {
     let mut checker = checker_for(alloc, system)?;
-    check_with(alloc, system, point, ladder, &mut checker)
+    check_with(alloc, system, point, &LentLadder::of(ladder), &mut checker)
 }
 
 /// The same with a checker that other ladders of the system used before.
@@ -176,7 +177,7 @@ pub fn check_with(
     alloc: Global,
     system: &System,
     point: u32,
-    ladder: &Ladder,
+    ladder: &LentLadder<'_>,
     checker: &mut Checker,
 ) -> Result<(), LadderFault>
     requires vars { checker.old.vars ≡ node_count system.now.graph }
@@ -196,7 +197,7 @@ fn check(
     alloc: Global,
     system: &System,
     point: u32,
-    ladder: &Ladder,
+    ladder: &LentLadder<'_>,
     checker: &mut Checker,
 ) -> Result<(), LadderFault>
     requires vars { checker.old.vars ≡ node_count system.now.graph }
@@ -208,7 +209,7 @@ fn check(
     if !is_shaped(system, ladder) {
         return Err(LadderFault::Shape);
     }
-    if let Some(place) = start_failure(system, ladder.lemmas.as_slice()) {
+    if let Some(place) = start_failure(system, ladder.lemmas()) {
         let lemma = place as u64 + 1;
         return Err(LadderFault::StartFails { lemma });
     }

@@ -4,6 +4,7 @@
 
 mod check;
 mod fault;
+mod lent;
 mod proof;
 mod shape;
 #[cfg(test)]
@@ -11,3 +12,4 @@ mod tests;
 
 pub use check::{check_ladder, check_with, checker_for};
 pub use fault::{LadderFault, Query, QueryFault};
+pub use lent::LentLadder;

@@ -2,7 +2,8 @@
 ghost use Rattle.std.specs.Prelude.{◌≡◌, ◌↔◌, ◌<◌, All, length, IsTrue};
 ghost use Rattle.bit_system.specs.Accepted.{IsLevelOf, has_steps, Rises, LemmaFits, IsShaped};
 
-use bit_system::{Depth, Ladder, Lemma, StateLit, System, lemma_has_states};
+use crate::lent::LentLadder;
+use bit_system::{Depth, Lemma, StateLit, System, lemma_has_states};
 
 /// Whether a ladder of this depth may have a lemma of this level.
 fn is_level_of(depth: Depth, level: Depth) -> bool
@@ -71,14 +72,14 @@ fn lemmas_fit(system: &System, depth: Depth, lemmas: &[Lemma]) -> bool
 }
 
 /// Whether levels, state numbers and proofs fit.
-pub fn is_shaped(system: &System, ladder: &Ladder) -> bool
+pub fn is_shaped(system: &System, ladder: &LentLadder<'_>) -> bool
     ensures { IsTrue result ↔ IsShaped system.now ladder.now }
 {
-    if !lemmas_fit(system, ladder.depth, ladder.lemmas.as_slice()) {
+    if !lemmas_fit(system, ladder.depth(), ladder.lemmas()) {
         return false;
     }
-    if ladder.steps.len() != ladder.lemmas.len() {
+    if ladder.steps().len() != ladder.lemmas().len() {
         return false;
     }
-    ladder.hit.is_some() == has_steps(ladder.depth)
+    ladder.hit().is_some() == has_steps(ladder.depth())
 }

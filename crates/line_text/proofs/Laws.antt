@@ -1,5 +1,5 @@
 -- What a reader of lines owes, and how readers are put together.
-use Rattle.std.proofs.Common.{◌≡◌, ℕ, zero, suc, ◌+◌, List, [], ◌∷◌, ◌++◌, length, Option, Some, None, Result, Ok, Err, refl, sym, ap, subst, ◌∙◌, append_assoc, arith, ◌⊎◌, inl, inr, length-append, add-zero}
+use Rattle.std.proofs.Common.{◌≡◌, ℕ, zero, suc, ◌+◌, ◌<◌, ◌≤◌, List, [], ◌∷◌, ◌++◌, length, Option, Some, None, Result, Ok, Err, refl, sym, ap, subst, ◌∙◌, append_assoc, arith, ◌⊎◌, inl, inr, length-append, add-zero}
 use Rattle.std.specs.List.{AllByRecursion}
 use Rattle.std.proofs.lemmas.List.{append-nil, nil_from_length}
 use Rattle.line_text.specs.Lines.{Line, Source, IsLine}
@@ -318,19 +318,24 @@ times_back : {X : Type 0} (d : X) (s : ℕ → X → List Line) (F : ℕ → ℕ
 times_back d s F i k n [] c f = absurd (omega arith)
 times_back d s F i k n (x ∷ xs) c f = (f.0, ((omega arith, f.1), refl))
 
-pub law_times : {X : Type 0} (s : ℕ → X → List Line) (F : ℕ → ℕ → X → Type 0) (r : ℕ → Source → Read X) → ((i : ℕ) → IsReaderOf (s i) (F i) (r i)) → (k i : ℕ) → IsReaderOf (spell_from s i) (λ n xs. (length xs ≡ k) × FitFrom s F i n xs) (times k i r)
-law_times {X} s F r law zero i =
+-- where a reader is known for numbers below a bound
+pub law_times_below : {X : Type 0} (bound : ℕ) (s : ℕ → X → List Line) (F : ℕ → ℕ → X → Type 0) (r : ℕ → Source → Read X) → ((i : ℕ) → i < bound → IsReaderOf (s i) (F i) (r i)) → (k i : ℕ) → i + k ≤ bound → IsReaderOf (spell_from s i) (λ n xs. (length xs ≡ k) × FitFrom s F i n xs) (times k i r)
+law_times_below {X} bound s F r law zero i le =
     law_as (λ _. []) (spell_from s i) (λ _ y. y ≡ []) (λ n xs. (length xs ≡ 0) × FitFrom s F i n xs) (times 0 i r) (law_done [])
     (λ n x f. ap (spell_from s i) (sym f)) (λ n x f. subst (λ (y : List X). (length y ≡ 0) × FitFrom s F i n y) (sym f) (refl, tt)) (λ n x f. nil_from_length x f.0)
-law_times {X} s F r law (suc k) i =
-    let d : X = ((law i).some 0).0 in
-    let rest = law_times s F r law k (i + 1) in
+law_times_below {X} bound s F r law (suc k) i le =
+    let one : IsReaderOf (s i) (F i) (r i) = law i (omega (arith, le)) in
+    let d : X = (one.some 0).0 in
+    let rest = law_times_below bound s F r law k (i + 1) (omega (arith, le)) in
     let inner = λ (x : X). law_then (spell_from s (i + 1)) (λ n xs. (length xs ≡ k) × FitFrom s F (i + 1) n xs) (times k (i + 1) r) (λ _ _. []) (λ xs _ z. z ≡ x ∷ xs) (λ xs u. Ok (x ∷ xs, u)) tail_list rest (λ n xs f. law_done (x ∷ xs)) (λ xs n z f. ap tail_list f) in
-    let whole = law_then (s i) (F i) (r i) (λ _ z. spell_from s (i + 1) (tail_list z) ++ []) (λ x n z. ((length (tail_list z) ≡ k) × FitFrom s F (i + 1) n (tail_list z)) × (z ≡ x ∷ tail_list z)) (λ x u. times k (i + 1) r u >>= λ xs. Ok (x ∷ xs.0, xs.1)) (head_or d) (law i) (λ n x f. inner x) (λ x n z f. ap (head_or d) f.1) in
+    let whole = law_then (s i) (F i) (r i) (λ _ z. spell_from s (i + 1) (tail_list z) ++ []) (λ x n z. ((length (tail_list z) ≡ k) × FitFrom s F (i + 1) n (tail_list z)) × (z ≡ x ∷ tail_list z)) (λ x u. times k (i + 1) r u >>= λ xs. Ok (x ∷ xs.0, xs.1)) (head_or d) one (λ n x f. inner x) (λ x n z f. ap (head_or d) f.1) in
     law_as (λ z. s i (head_or d z) ++ (spell_from s (i + 1) (tail_list z) ++ [])) (spell_from s i)
     (λ n z. F i n (head_or d z) × (((length (tail_list z) ≡ k) × FitFrom s F (i + 1) (n + length (s i (head_or d z))) (tail_list z)) × (z ≡ head_or d z ∷ tail_list z)))
     (λ n xs. (length xs ≡ suc k) × FitFrom s F i n xs) (times (suc k) i r) whole
     (λ n z f. times_same d s i z f.1.1) (λ n z f. times_to d s F i k n z f.1.1 f.0 f.1.0.0 f.1.0.1) (λ n z f. times_back d s F i k n z f.0 f.1)
+
+pub law_times : {X : Type 0} (s : ℕ → X → List Line) (F : ℕ → ℕ → X → Type 0) (r : ℕ → Source → Read X) → ((i : ℕ) → IsReaderOf (s i) (F i) (r i)) → (k i : ℕ) → IsReaderOf (spell_from s i) (λ n xs. (length xs ≡ k) × FitFrom s F i n xs) (times k i r)
+law_times s F r law k i = law_times_below (i + k) s F r (λ j lt. law j) k i (omega arith)
 
 -- ---- values up to a line that ends them
 

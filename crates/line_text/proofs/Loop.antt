@@ -1,10 +1,7 @@
 -- Reading values a line each, as a loop does.
-use Rattle.std.proofs.Common.{◌≡◌, ℕ, suc, ◌+◌, ◌-◌, ◌<◌, ◌≤◌, List, [], ◌∷◌, ◌++◌, length, Option, Some, None, Ok, Err, refl, sym, ap, subst, ◌∙◌, append_assoc, ◌⊎◌, inl, inr, arith}
+use Rattle.std.proofs.Common.{◌≡◌, ℕ, suc, ◌+◌, ◌-◌, ◌<◌, List, [], ◌∷◌, ◌++◌, Option, Some, None, Ok, Err, refl, sym, ap, subst, ◌∙◌, append_assoc, ◌⊎◌, inl, inr, arith}
 use Rattle.line_text.specs.Lines.{Line, Source}
-use Rattle.std.proofs.lemmas.List.{append-nil}
-use Rattle.line_text.specs.declared.error.LineError.{LineError}
-use Rattle.line_text.specs.declared.error.LineError.TheVariants as errors
-use Rattle.line_text.specs.Reading.{Read, ◌>>=◌, Fails, first_line, next, after_item, until_from, times}
+use Rattle.line_text.specs.Reading.{Read, ◌>>=◌, first_line, next, after_item, until_from, times}
 use Rattle.line_text.proofs.Laws.{ok_is}
 
 -- the next line is the first of those that are left
@@ -19,9 +16,6 @@ steps n (k ∷ ks) t l s e =
     let made : Line × Source = (k, record { line = n + 1; lines = ks; tail = t }) in
     let q : made ≡ (l, s) = ok_is made (l, s) e in
     subst (λ (p : Line × Source). Steps n (k ∷ ks) t p.0 p.1) q (record { lines = refl; line = refl; tail = refl })
-
-pub shorter : (u : Source) (l : Line) (s : Source) → next u ≡ Ok (l, s) → length s.lines < length u.lines
-shorter u l s e = omega (arith, ap length (steps u.line u.lines u.tail l s e).lines)
 
 until_step : {X Y : Type 0} (f : List X → Line → Option (X ⊎ Y)) (seen : List X) (u : Source) (l : Line) (s : Source) → next u ≡ Ok (l, s)
     → until_from f seen u.line u.lines u.tail ≡ after_item (λ x. until_from f (seen ++ x ∷ []) s.line s.lines s.tail) (λ y. Ok ((seen, y), s)) (Err u.line) (f seen l)
@@ -46,14 +40,6 @@ pub is_bad : {X Y : Type 0} (f : List X → Line → Option (X ⊎ Y)) (seen : L
 is_bad f seen u l s total e h so_far =
     sym so_far ∙ until_step f seen u l s e ∙ ap (after_item (λ x. until_from f (seen ++ x ∷ []) s.line s.lines s.tail) (λ y. Ok ((seen, y), s)) (Err u.line)) h
 
-no_line : {X Y : Type 0} (f : List X → Line → Option (X ⊎ Y)) (seen : List X) (n : ℕ) (ls : List Line) (t : List ℕ) (m : ℕ) → first_line n ls t ≡ Err m → until_from f seen n ls t ≡ Err m
-no_line f seen n [] t m e = cc
-no_line f seen n (l ∷ ls) t m e = absurd cc
-
-pub is_short : {X Y : Type 0} (f : List X → Line → Option (X ⊎ Y)) (seen : List X) (u : Source) (m : ℕ) (total : Read (List X × Y)) → next u ≡ Err m
-    → until_from f seen u.line u.lines u.tail ≡ total → total ≡ Err m
-is_short f seen u m total e so_far = sym so_far ∙ no_line f seen u.line u.lines u.tail m e
-
 -- ---- a count of values
 
 -- what was read before, and what is still read
@@ -73,19 +59,3 @@ counts_on {X} r front count i u x s total lt h so_far =
     ∙ ap (λ (a : Read X). with_front front (a >>= λ x. times (count - (i + 1)) (i + 1) r x.1 >>= λ xs. Ok (x.0 ∷ xs.0, xs.1))) h
     ∙ regroup front x (times (count - (i + 1)) (i + 1) r s) in
     sym one ∙ so_far
-
-pub count_fails : {X : Type 0} (r : ℕ → Source → Read X) (e : LineError) (front : List X) (count i : ℕ) (u : Source) (total : Read (List X)) → i < count → Fails e (r i u)
-    → with_front front (times (count - i) i r u) ≡ total → Fails e total
-count_fails r errors.Memory front count i u total lt h so_far = tt
-count_fails {X} r (errors.BadLine n) front count i u total lt h so_far =
-    let k : count - i ≡ suc (count - (i + 1)) = omega arith in
-    let one : with_front front (times (count - i) i r u) ≡ Err n =
-    ap (λ (c : ℕ). with_front front (times c i r u)) k
-    ∙ ap (λ (a : Read X). with_front front (a >>= λ x. times (count - (i + 1)) (i + 1) r x.1 >>= λ xs. Ok (x.0 ∷ xs.0, xs.1))) h in
-    sym so_far ∙ one
-
-pub count_ends : {X : Type 0} (r : ℕ → Source → Read X) (front : List X) (count i : ℕ) (u : Source) (total : Read (List X)) → count ≤ i → with_front front (times (count - i) i r u) ≡ total → total ≡ Ok (front, u)
-count_ends r front count i u total le so_far =
-    let k : count - i ≡ 0 = omega arith in
-    let one : with_front front (times (count - i) i r u) ≡ Ok (front, u) = ap (λ (c : ℕ). with_front front (times c i r u)) k ∙ ap (λ xs. Ok (xs, u)) (append-nil front) in
-    sym so_far ∙ one

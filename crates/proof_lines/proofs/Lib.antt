@@ -1,5 +1,5 @@
 mod Front
 mod Leftover
-mod LineLaws
+pub mod LineLaws
 mod Spaces
 mod TextLaws

@@ -1,17 +1,19 @@
 -- A line of a proof is read from the words that spell it, and from no others.
-use Rattle.std.proofs.Common.{◌≡◌, ℕ, zero, suc, ◌+◌, ◌^◌, ◌<◌, ◌≤◌, inl, Bool, true, false, not, cond, eqb, List, [], ◌∷◌, ◌++◌, length, map, Option, Some, None, option_map, refl, sym, ap, subst, ◌∙◌, append_assoc, arith, lit<, decimal, codes, ◌&&◌, ◌||◌}
-use Rattle.std.specs.Prelude.{option_and_then, is_some}
+use Rattle.std.proofs.Common.{◌≡◌, ℕ, ◌^◌, ◌<◌, ◌≤◌, inl, Bool, true, false, not, cond, eqb, List, [], ◌∷◌, ◌++◌, map, Option, Some, None, option_map, refl, sym, ap, subst, ◌∙◌, append_assoc, arith, lit<, decimal, codes, ◌&&◌, ◌||◌}
+use Rattle.std.specs.Prelude.{option_and_then, is_some, IfOk, Result, Ok, Err}
 use Rattle.std.specs.List.{list_any, AllByRecursion}
 use Rattle.std.specs.Str.{bytes_eq}
 use Rattle.std.proofs.lemmas.Bool.{eqb-true, eqb-false, ne_eqb, and_parts, false_from_ne_true}
 use Rattle.std.proofs.lemmas.List.{append-nil}
 use Rattle.cnf_core.specs.Literal.{Literal}
+use Rattle.cnf_core.specs.declared.Line.{Line}
 use Rattle.line_text.specs.Lines.{Line as Words, Lacks, IsWord, IsLine}
 use Rattle.line_text.specs.Number.{number_of}
-use Rattle.line_text.proofs.Laws.{some_is}
+use Rattle.line_text.proofs.Laws.{IsLineOf, some_is}
 use Rattle.line_text.proofs.Numerals.{number_takes, number_again, number_word, number_lacks}
-use Rattle.line_text.proofs.Words.{IsWordOf, and_then_some, map_some, same_bytes, bytes_same, word_from}
-use Rattle.proof_lines.specs.Spelling.{PlainLine, Addition, Deletion, literal_word, addition_words, deletion_words, line_words, IsId, IsLiteral, Fits, RatLine, rat_words, IsRat}
+use Rattle.line_text.proofs.Words.{IsWordOf, and_then_some, map_some, same_bytes, word_from}
+use Rattle.proof_lines.specs.Spelling.{PlainLine, plain, Addition, Deletion, literal_word, line_words, IsId, IsLiteral, Fits, RatLine, rat_words, IsRat}
+use Rattle.proof_lines.specs.Answers.{LineAnswers}
 use Rattle.proof_lines.specs.Reading.{positive, id_of, signed, signed_of, literal_of, hint_of, to_zero, only, deletion_of, addition_of, behind_id, lrat_of, rat_next, is_nothing, are_rat_hints, rat_after, is_rat}
 
 abbrev most : ℕ
@@ -282,6 +284,22 @@ pub lrat_is_line : (x : PlainLine) → Fits x → IsLine (line_words x)
 lrat_is_line (Addition id ls hs) f = addition_is_line id (map literal_word ls) (map decimal hs) f.0 (literals_words ls f.1) (ids_words hs f.2)
 lrat_is_line (Deletion id ids) f =
     (omega arith, (number_word id (omega (arith, f.0.1)), (word_from (codes "d") refl, words_append (map decimal ids) (codes "0" ∷ []) (ids_words ids f.1) (zero_word, tt))))
+
+-- the law of a line
+pub law_lrat : IsLineOf line_words Fits lrat_of
+law_lrat = record { takes = lrat_takes; again = lrat_again; line = lrat_is_line }
+
+unread : (x : PlainLine) → Some x ≡ None → ⊥
+unread x e = cc
+
+line_answers : (ws : Words) (o : Option PlainLine) → o ≡ lrat_of ws → LineAnswers ws o
+line_answers ws (Some x) e = let t = lrat_takes ws x (sym e) in (t.1, t.0)
+line_answers ws None e = λ x f h. unread x (sym (lrat_again x f) ∙ ap lrat_of (sym h) ∙ sym e)
+
+-- what a call answers that computes lrat_of
+pub read_answers : {E : Type 0} (ws : Words) (r : Result (Option Line) E) → IfOk r (λ o. option_map plain o ≡ lrat_of ws) → IfOk r (λ o. LineAnswers ws (option_map plain o))
+read_answers ws (Ok o) e = line_answers ws (option_map plain o) e
+read_answers ws (Err f) e = tt
 
 pub rat_is_line : (x : RatLine) → IsRat x → IsLine (rat_words x)
 rat_is_line x f = addition_is_line x.id (map literal_word x.lits) (map literal_word x.hints) f.id (literals_words x.lits f.lits) (hints_words x.hints f.hints)

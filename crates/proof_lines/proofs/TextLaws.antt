@@ -4,7 +4,7 @@ use Rattle.std.specs.List.{AllByRecursion}
 use Rattle.std.proofs.lemmas.List.{append-nil}
 use Rattle.std.proofs.lemmas.List.Concat.{flat_map-append}
 use Rattle.cnf_core.specs.declared.Line.{Line}
-use Rattle.line_text.specs.Lines.{Line as Words, Source, source_of, words, whole_lines, tail_of, text_of, line_text, IsLine}
+use Rattle.line_text.specs.Lines.{Line as Words, Source, source_of, whole_lines, tail_of, text_of, line_text, IsLine}
 use Rattle.line_text.proofs.Cutting.{text_is, source_text}
 use Rattle.proof_lines.specs.Spelling.{PlainLine, plain, line_words, spelling, Fits, RatLine, rat_words, IsRat}
 use Rattle.proof_lines.specs.Reading.{lrat_of, is_rat, fault_of, onto, lines_of, all_lines, text_lines}

@@ -1,5 +1,5 @@
 -- What the functions that read lines return.
-use Rattle.std.specs.Prelude.{◌≡◌, ℕ, List, map, Result, Ok, Err, ⊤}
+use Rattle.std.specs.Prelude.{◌≡◌, List, map, Result, Ok, Err, ⊤}
 use Rattle.cnf_core.specs.declared.Line.{Line}
 use Rattle.line_text.specs.Lines.{Source}
 use Rattle.proof_lines.specs.Spelling.{PlainLine, plain}

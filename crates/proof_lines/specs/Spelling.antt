@@ -1,11 +1,11 @@
 -- How the lines of a proof are spelled, by the LRAT paper (Cruz-Filipe, Heule, Hunt, Kaufmann, Schneider-Kamp 2017),
 -- without RAT: `id literals 0 hints 0` and `id d ids 0`, one space between two words, a line feed at the end.
-use Rattle.std.specs.Prelude.{◌≡◌, ℕ, ◌<◌, ◌^◌, Bool, true, not, List, [], ◌∷◌, ◌++◌, map, codes, decimal, if◌then◌else◌}
+use Rattle.std.specs.Prelude.{◌≡◌, ℕ, ◌<◌, ◌^◌, true, not, List, [], ◌∷◌, ◌++◌, map, codes, decimal, if◌then◌else◌}
 use Rattle.std.specs.List.{list_any, AllByRecursion}
 use Rattle.cnf_core.specs.Literal.{Literal}
 use Rattle.cnf_core.specs.declared.Line.{Line}
 use Rattle.cnf_core.specs.declared.Line.TheVariants.{Add, Delete}
-use Rattle.line_text.specs.Lines.{Line as Words, line_text, text_of}
+use Rattle.line_text.specs.Lines.{Line as Words, text_of}
 
 -- what a line says: the number and the clause of an addition with its hints, or the number of a deletion with those of the clauses
 pub data PlainLine : Type 0 where

@@ -7,7 +7,7 @@ mod sink;
 mod write;
 
 pub use error::LratError;
-pub use read::read_lrat;
+pub use read::{read_line, read_lrat};
 pub use sink::{KeepSink, NoSink, ProofSink, TextSink};
 pub use write::write_lrat;
 

@@ -6,7 +6,7 @@ ghost use Rattle.line_text.specs.Lines.{words, words_after};
 ghost use Rattle.proof_lines.specs.Spelling.{PlainLine, plain, Fits, spelling};
 ghost use Rattle.proof_lines.specs.Reading.{positive, id_of, signed, signed_of, literal_of, hint_of, to_zero, deletion_of, addition_of, behind_id, lrat_of, are_rat_hints, is_rat, fault_of, next_line, text_lines};
 ghost use Rattle.proof_lines.specs.Read.{IsFault, IsNext, AreRead};
-ghost use Rattle.proof_lines.specs.Answers.{LratAnswers, LratGives};
+ghost use Rattle.proof_lines.specs.Answers.{LineAnswers, LratAnswers, LratGives};
 
 use crate::error::LratError;
 use cnf_core::{Hints, Line, Lit};
@@ -182,6 +182,17 @@ fn lrat(alloc: Global, line: &[u8]) -> Result<Option<Line>, AllocError>
         Some(id) => behind_id(alloc, id, rest),
         None => Ok(None),
     }
+}
+
+/// The proof line that a line of text spells, or `None` where it spells none: LRAT, without RAT. The line feed isn't
+/// part of it. It takes time in the line.
+pub fn read_line(alloc: Global, line: &[u8]) -> Result<Option<Line>, AllocError>
+    // What is read is spelled by the words of the line, and where nothing is read they spell no proof line.
+    ensures answers { IfOk result (λ o. LineAnswers (words line.now) (option_map plain o)) }
+    // The same, as a function of the words.
+    ensures value { IfOk result (λ o. option_map plain o ≡ lrat_of (words line.now)) }
+{
+    lrat(alloc, line)
 }
 
 /// Whether these are hints and the word 0 at the end, and a hint is negative.

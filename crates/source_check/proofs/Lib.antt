@@ -5,6 +5,7 @@ pub mod Lookup
 pub mod Owning
 pub mod Forms
 pub mod Numbering
+pub mod LegalDesigns
+pub mod Systems
 pub mod Truth
 pub mod OneByOne
-pub mod LegalDesigns

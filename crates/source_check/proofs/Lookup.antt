@@ -1,5 +1,5 @@
 -- Where a name stands among the names.
-use Rattle.std.proofs.Common.{◌≡◌, ℕ, ◌<◌, ◌≤◌, ◌+◌, Bool, true, false, not, cond, ltb, List, [], ◌∷◌, ◌++◌, length, get_or, take, Option, Some, None, below_more, refl, sym, ap, ◌∙◌, subst, arith, ⊎_elim}
+use Rattle.std.proofs.Common.{◌≡◌, ℕ, ◌<◌, ◌≤◌, ◌+◌, Bool, true, false, not, cond, ltb, List, [], ◌∷◌, ◌++◌, length, get_or, take, map, Option, Some, None, below_more, refl, sym, ap, ◌∙◌, subst, arith, ⊎_elim}
 use Rattle.std.specs.Prelude.{Contains, position, slice_get, unwrap_or, MatchBool, IsTrue}
 use Rattle.std.specs.List.{position_or_len, list_any}
 use Rattle.std.specs.Str.{bytes_eq}
@@ -108,30 +108,37 @@ pub record Declaring (names : List (List ℕ)) (i : ℕ) (scope : List (List ℕ
 pub declaring_none : (names : List (List ℕ)) → Declaring names 0 []
 declaring_none names = record { same = refl; none = λ k h. absurd (omega arith) }
 
-module _ (ports : List Port) (i : ℕ) (port : Port) (scope : List (List ℕ)) (at : port ≡ get_or ports i port) (within : i < length ports) where
+module _ {X : Type 0} (name_of : X → List ℕ) (items : List X) (i : ℕ) (item : X) (scope : List (List ℕ)) (at : item ≡ get_or items i item) (within : i < length items) where
   abbrev names : List (List ℕ)
-  names = port_names ports
+  names = map name_of items
 
   inside : i < length names
-  inside = omega (arith, length-map ports (λ (p : Port). p.name.name))
+  inside = omega (arith, length-map items name_of)
 
-  here : get_or names i [] ≡ port.name.name
-  here = get_or-map (λ (p : Port). p.name.name) ports i port [] within ∙ ap (λ (p : Port). p.name.name) (sym at)
+  here : get_or names i [] ≡ name_of item
+  here = get_or-map name_of items i item [] within ∙ ap name_of (sym at)
 
-  pub declaring_more : (later : List (List ℕ)) → later ≡ scope ++ port.name.name ∷ [] → (Contains scope port.name.name → ⊥) → Declaring names i scope → Declaring names (i + 1) later
+  pub declaring_more : (later : List (List ℕ)) → later ≡ scope ++ name_of item ∷ [] → (Contains scope (name_of item) → ⊥) → Declaring names i scope → Declaring names (i + 1) later
   declaring_more later grown new d =
       record {
-        same = grown ∙ ap (λ xs. xs ++ port.name.name ∷ []) d.same ∙ sym (take_more names i [] inside ∙ ap (λ x. take i names ++ x ∷ []) here);
-        none = below_more _ _ d.none (λ h. new (subst (λ xs. Contains xs port.name.name) (sym d.same) (subst (Contains (take i names)) here h)));
+        same = grown ∙ ap (λ xs. xs ++ name_of item ∷ []) d.same ∙ sym (take_more names i [] inside ∙ ap (λ x. take i names ++ x ∷ []) here);
+        none = below_more _ _ d.none (λ h. new (subst (λ xs. Contains xs (name_of item)) (sym d.same) (subst (Contains (take i names)) here h)));
       }
 
-  pub declared_twice : Contains scope port.name.name → Declaring names i scope → AreDistinct names → ⊥
-  declared_twice there d = not_distinct names i inside (subst (Contains (take i names)) (sym here) (subst (λ xs. Contains xs port.name.name) d.same there))
+  pub declared_twice : Contains scope (name_of item) → Declaring names i scope → AreDistinct names → ⊥
+  declared_twice there d = not_distinct names i inside (subst (Contains (take i names)) (sym here) (subst (λ xs. Contains xs (name_of item)) d.same there))
 
-pub declared_all : (ports : List Port) (i : ℕ) (scope : List (List ℕ)) → length ports ≤ i → Declaring (port_names ports) i scope → (scope ≡ port_names ports) × AreDistinct (port_names ports)
-declared_all ports i scope past d =
-    let long = length-map ports (λ (p : Port). p.name.name) in
-    (d.same ∙ take_all i (port_names ports) (omega (arith, long)), distinct_all (port_names ports) (λ k lt. d.none k (omega (arith, long))))
+  -- where all are distinct, each is new
+  pub declaring_one : AreDistinct names → (later : List (List ℕ)) (new : Bool) → MatchBool new (later ≡ scope ++ name_of item ∷ []) (later ≡ scope) →
+      MatchBool new (Contains scope (name_of item) → ⊥) (Contains scope (name_of item)) → Declaring names i scope → Declaring names (i + 1) later
+  declaring_one distinct later true grown absent d = declaring_more later grown absent d
+  declaring_one distinct later false grown there d = absurd (declared_twice there d distinct)
+
+pub declared_all : {X : Type 0} (name_of : X → List ℕ) (items : List X) (i : ℕ) (scope : List (List ℕ)) → length items ≤ i → Declaring (map name_of items) i scope →
+    (scope ≡ map name_of items) × AreDistinct (map name_of items)
+declared_all name_of items i scope past d =
+    let long = length-map items name_of in
+    (d.same ∙ take_all i (map name_of items) (omega (arith, long)), distinct_all (map name_of items) (λ k lt. d.none k (omega (arith, long))))
 
 -- ---- ports by their names
 

@@ -6,21 +6,20 @@ use Rattle.design_core.specs.declared.setup.Setup.{Setup}
 use Rattle.cert_text.specs.declared.cert.CertClaim.{CertClaim}
 use Rattle.cert_text.specs.declared.claim.Claim.{Claim}
 use Rattle.source_check.specs.declared.error.CheckError.{CheckError}
-use Rattle.source_check.specs.declared.error.CheckError.TheVariants.{Source, Cert as Unread, WrongPoint, Missing, NotHit, Memory}
+use Rattle.source_check.specs.declared.error.CheckError.TheVariants.{Source, Cert as Unread, WrongPoint, Missing, NotHit, Ladder, Memory}
 use Rattle.source_check.specs.declared.points.Point.{Point}
-use Rattle.std.specs.Prelude.{IfOk}
 use Rattle.vlog_tree.specs.declared.Tree.{Tree}
 use Rattle.cert_text.specs.declared.cert.Cert.{Cert}
-use Rattle.source_check.specs.Flat.{IsDesignOf}
+use Rattle.source_check.specs.Legal.{IsElaborated}
 use Rattle.source_check.specs.Points.{points_of}
-use Rattle.source_check.specs.Judging.{Holds, Accepted, FirstFault, JudgesClaim, JudgesClaims, Judges, AreTrue, told}
-use Rattle.source_check.proofs.Truth.{true_where_judged}
+use Rattle.source_check.specs.Judging.{system_of, Holds, Accepted, FirstFault, JudgesClaim, JudgesClaims, Judges, told}
+use Rattle.bit_system.specs.Machine.{Machine}
 
-module _ (d : Design) (setup : Setup) (points : List Point) (claims : List CertClaim) where
+module _ (m : Machine) (d : Design) (setup : Setup) (points : List Point) (claims : List CertClaim) where
   -- the first k claims hold, so the rest decide
   pub record HoldUpTo (k : ℕ) (accepted : List Claim) : Type 0 where
-    pub faults : (fault : CheckError) → FirstFault d setup (drop k points) (drop k claims) fault → FirstFault d setup points claims fault
-    pub accepts : Accepted d setup (drop k points) (drop k claims) → Accepted d setup points claims
+    pub faults : (fault : CheckError) → FirstFault m d setup k (drop k points) (drop k claims) fault → FirstFault m d setup 0 points claims fault
+    pub accepts : Accepted m d setup k (drop k points) (drop k claims) → Accepted m d setup 0 points claims
     pub told_so_far : accepted ≡ map told (take k claims)
 
   pub hold_none : HoldUpTo 0 []
@@ -31,42 +30,43 @@ module _ (d : Design) (setup : Setup) (points : List Point) (claims : List CertC
     front = at_drop_more (λ cs. cs) claims k c within ∙ ap (λ x. x ∷ drop (k + 1) claims) (sym at)
 
     -- there is no point for the claim
-    pub no_point : length points ≤ k → FirstFault d setup points claims (WrongPoint c.line)
+    pub no_point : length points ≤ k → FirstFault m d setup 0 points claims (WrongPoint c.line)
     no_point past =
         h.faults (WrongPoint c.line)
-        (subst (λ ps. FirstFault d setup ps (drop k claims) (WrongPoint c.line)) (sym (drop_all k points past))
-        (subst (λ cs. FirstFault d setup [] cs (WrongPoint c.line)) (sym front) refl))
+        (subst (λ ps. FirstFault m d setup k ps (drop k claims) (WrongPoint c.line)) (sym (drop_all k points past))
+        (subst (λ cs. FirstFault m d setup k [] cs (WrongPoint c.line)) (sym front) refl))
 
     module _ (p : Point) (point_within : k < length points) (point_at : p ≡ get_or points k p) where
       point_front : drop k points ≡ p ∷ drop (k + 1) points
       point_front = at_drop_more (λ ps. ps) points k p point_within ∙ ap (λ x. x ∷ drop (k + 1) points) (sym point_at)
 
       abbrev Here : CheckError → Type 0
-      Here fault = FirstFault d setup (p ∷ drop (k + 1) points) (c ∷ drop (k + 1) claims) fault
+      Here fault = FirstFault m d setup k (p ∷ drop (k + 1) points) (c ∷ drop (k + 1) claims) fault
 
-      here : (fault : CheckError) → Here fault → FirstFault d setup points claims fault
+      here : (fault : CheckError) → Here fault → FirstFault m d setup 0 points claims fault
       here fault f =
           h.faults fault
-          (subst (λ ps. FirstFault d setup ps (drop k claims) fault) (sym point_front)
-          (subst (λ cs. FirstFault d setup (p ∷ drop (k + 1) points) cs fault) (sym front) f))
+          (subst (λ ps. FirstFault m d setup k ps (drop k claims) fault) (sym point_front)
+          (subst (λ cs. FirstFault m d setup k (p ∷ drop (k + 1) points) cs fault) (sym front) f))
 
       -- the claim fails
-      pub claim_fails : (fault : CheckError) → JudgesClaim d setup p c (Err fault) → JudgesClaims d setup points claims (Err fault)
+      pub claim_fails : (fault : CheckError) → JudgesClaim m d setup k p c (Err fault) → JudgesClaims m d setup points claims (Err fault)
       claim_fails (WrongPoint line) f = here (WrongPoint line) (inl (f.0, ap (λ l. WrongPoint l) f.1))
-      claim_fails (NotHit point) f = here (NotHit point) (inr (inl (f.0, f.1, ap (λ n. NotHit n) f.2)))
+      claim_fails (NotHit point) f = here (NotHit point) (inr (inl (f.0, f.1)))
+      claim_fails (Ladder point fault) f = here (Ladder point fault) (inr (inl (f.0, f.1)))
       claim_fails (Missing point) f = absurd f
       claim_fails (Source error) f = absurd f
       claim_fails (Unread error) f = absurd f
       claim_fails Memory f = tt
 
       -- the claim holds
-      pub hold_more : (later : List Claim) (one : Claim) → later ≡ accepted ++ one ∷ [] → one ≡ told c → (c.point ≡ p.name) × Holds d setup p.test c.body → HoldUpTo (k + 1) later
+      pub hold_more : (later : List Claim) (one : Claim) → later ≡ accepted ++ one ∷ [] → one ≡ told c → (c.point ≡ p.name) × Holds m d setup k p c.body → HoldUpTo (k + 1) later
       hold_more later one grown is f = record {
         faults = λ fault rest. here fault (inr (inr (f.0, f.1, rest)));
         accepts = λ rest.
             h.accepts
-            (subst (λ ps. Accepted d setup ps (drop k claims)) (sym point_front)
-            (subst (λ cs. Accepted d setup (p ∷ drop (k + 1) points) cs) (sym front) (f.0, f.1, rest)));
+            (subst (λ ps. Accepted m d setup k ps (drop k claims)) (sym point_front)
+            (subst (λ cs. Accepted m d setup k (p ∷ drop (k + 1) points) cs) (sym front) (f.0, f.1, rest)));
         told_so_far =
             grown ∙ ap (λ x. accepted ++ x ∷ []) is ∙ ap (λ xs. xs ++ told c ∷ []) h.told_so_far
             ∙ sym (ap (map told) (take_more claims k c within ∙ ap (λ x. take k claims ++ x ∷ []) (sym at)) ∙ map-append told (take k claims) (c ∷ []));
@@ -74,30 +74,27 @@ module _ (d : Design) (setup : Setup) (points : List Point) (claims : List CertC
 
   module _ (k : ℕ) (accepted : List Claim) (h : HoldUpTo k accepted) (past : length claims ≤ k) where
     -- the list of points goes on
-    pub no_claim : (p : Point) → k < length points → p ≡ get_or points k p → FirstFault d setup points claims (Missing p.name)
+    pub no_claim : (p : Point) → k < length points → p ≡ get_or points k p → FirstFault m d setup 0 points claims (Missing p.name)
     no_claim p within at =
         h.faults (Missing p.name)
-        (subst (λ ps. FirstFault d setup ps (drop k claims) (Missing p.name)) (sym (at_drop_more (λ ps. ps) points k p within ∙ ap (λ x. x ∷ drop (k + 1) points) (sym at)))
-        (subst (λ cs. FirstFault d setup (p ∷ drop (k + 1) points) cs (Missing p.name)) (sym (drop_all k claims past)) refl))
+        (subst (λ ps. FirstFault m d setup k ps (drop k claims) (Missing p.name)) (sym (at_drop_more (λ ps. ps) points k p within ∙ ap (λ x. x ∷ drop (k + 1) points) (sym at)))
+        (subst (λ cs. FirstFault m d setup k (p ∷ drop (k + 1) points) cs (Missing p.name)) (sym (drop_all k claims past)) refl))
 
-    pub all_hold : length points ≤ k → Accepted d setup points claims × (accepted ≡ map told claims)
+    pub all_hold : length points ≤ k → Accepted m d setup 0 points claims × (accepted ≡ map told claims)
     all_hold short = (
       h.accepts
-          (subst (λ ps. Accepted d setup ps (drop k claims)) (sym (drop_all k points short)) (subst (λ cs. Accepted d setup [] cs) (sym (drop_all k claims past)) tt)),
+          (subst (λ ps. Accepted m d setup k ps (drop k claims)) (sym (drop_all k points short)) (subst (λ cs. Accepted m d setup k [] cs) (sym (drop_all k claims past)) tt)),
       h.told_so_far ∙ ap (map told) (take_all k claims past),
     )
 
 -- the answer for the claims is the answer for the certificate
-pub judged_by : (tree : Tree) (cert : Cert) (d : Design) (result : Result (List Claim) CheckError) → IsDesignOf tree cert.setup d →
-    JudgesClaims d cert.setup (points_of d cert.setup) cert.claims result → Judges tree cert result
+pub judged_by : (tree : Tree) (cert : Cert) (d : Design) (result : Result (List Claim) CheckError) → IsElaborated tree cert.setup d →
+    JudgesClaims (system_of d cert.setup) d cert.setup (points_of d cert.setup) cert.claims result → Judges tree cert result
 judged_by tree cert d (Ok claims) is h = (d, is, h.0, h.1)
 judged_by tree cert d (Err (WrongPoint line)) is h = (d, is, h)
 judged_by tree cert d (Err (Missing point)) is h = (d, is, h)
 judged_by tree cert d (Err (NotHit point)) is h = (d, is, h)
+judged_by tree cert d (Err (Ladder point fault)) is h = (d, is, h)
 judged_by tree cert d (Err (Source error)) is h = absurd h
 judged_by tree cert d (Err (Unread error)) is h = absurd h
 judged_by tree cert d (Err Memory) is h = tt
-
-pub if_judged : (tree : Tree) (cert : Cert) (result : Result (List Claim) CheckError) → Judges tree cert result → IfOk result (λ claims. AreTrue tree cert claims)
-if_judged tree cert (Ok claims) h = true_where_judged tree cert claims h
-if_judged tree cert (Err error) h = tt

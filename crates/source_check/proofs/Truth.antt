@@ -1,17 +1,33 @@
 -- What is accepted is true.
-use Rattle.std.proofs.Common.{◌≡◌, ◌+◌, List, [], ◌∷◌, map, Contains, All, Ok, refl, ap, ◌∙◌, sym, subst, add-one, arith}
+use Rattle.std.proofs.Common.{◌≡◌, ℕ, ◌+◌, List, [], ◌∷◌, map, Contains, All, Some, refl, ap, ◌∙◌, sym, subst, add-one, arith, Ok, Err}
+use Rattle.std.specs.Prelude.{Result, IfOk, slice_get, option_map}
 use Rattle.std.proofs.lemmas.List.Elements.{All-nil, All-cons}
+use Rattle.std.proofs.lemmas.Option.{slice_get-map}
 use Rattle.vlog_tree.specs.declared.Tree.{Tree}
 use Rattle.design_core.specs.declared.flat.Design.{Design}
 use Rattle.design_core.specs.declared.setup.Setup.{Setup}
+use Rattle.design_core.specs.Legality.{IsLegal}
+use Rattle.design_core.specs.Verdicts.{NotWithin, Never}
+use Rattle.design_core.proofs.RunLaws.{run_exists}
+use Rattle.bit_system.specs.declared.ladder.Depth.TheVariants.{All as Forever, Steps}
+use Rattle.bit_system.specs.Machine.{Machine, IsMachine}
+use Rattle.bit_system.proofs.Induction.{never-hits}
+use Rattle.plain_blast.specs.Bridge.{Bridge}
 use Rattle.cert_text.specs.declared.cert.Cert.{Cert}
 use Rattle.cert_text.specs.declared.cert.CertClaim.{CertClaim}
+use Rattle.cert_text.specs.declared.cert.NamedLadder.{NamedLadder}
 use Rattle.cert_text.specs.declared.cert.Body.{Body}
-use Rattle.cert_text.specs.declared.cert.Body.TheVariants.{Reached}
+use Rattle.cert_text.specs.declared.cert.Body.TheVariants.{Reached, Excluded, Open}
 use Rattle.cert_text.specs.declared.claim.Claim.{Claim}
+use Rattle.source_check.specs.declared.error.CheckError.{CheckError}
 use Rattle.source_check.specs.declared.points.Point.{Point}
-use Rattle.source_check.specs.Points.{points_of}
-use Rattle.source_check.specs.Judging.{Judges, AreTrue, Accepted, Holds, IsTrueOf, told, verdict_of}
+use Rattle.source_check.specs.declared.points.Test.{Test}
+use Rattle.source_check.specs.declared.points.Test.TheVariants.{Passed}
+use Rattle.source_check.specs.Points.{points_of, site_of, hit_by}
+use Rattle.source_check.specs.Ladders.{state_names, ladder_of}
+use Rattle.source_check.specs.Legal.{IsElaborated}
+use Rattle.source_check.proofs.LegalDesigns.{text_design_is_legal}
+use Rattle.source_check.specs.Judging.{JudgesClaims, AreTrue, Accepted, Holds, Shows, IsTrueOf, told, verdict_of}
 
 first_in : {X : Type 0} (x : X) (xs : List X) → Contains (x ∷ xs) x
 first_in x xs = (0, omega arith, refl)
@@ -19,31 +35,72 @@ first_in x xs = (0, omega arith, refl)
 rest_in : {X : Type 0} (x : X) (xs : List X) (y : X) → Contains xs y → Contains (x ∷ xs) y
 rest_in x xs y c = (c.0 + 1, omega (arith, c.1), rw add-one c.2)
 
--- a claim that holds is true
-true_one : (d : Design) (cert : Cert) (p : Point) (c : CertClaim) (body : Body) → c.body ≡ body → Contains cert.claims c → c.point ≡ p.name → Holds d cert.setup p.test body → IsTrueOf d cert p (verdict_of body)
-true_one d cert p c (Reached cycle stimulus) e there name holds = (c, stimulus, there, name, e, holds)
-
--- what is said of a claim
-abbrev IsTrueClaim : Design → Cert → Claim → Type 0
-IsTrueClaim d cert c = (p : Point) × Contains (points_of d cert.setup) p × (p.name ≡ c.point) × IsTrueOf d cert p c.verdict
-
-true_all : (d : Design) (cert : Cert) (points : List Point) (claims : List CertClaim) → ((p : Point) → Contains points p → Contains (points_of d cert.setup) p) → ((c : CertClaim) → Contains claims c → Contains cert.claims c) → Accepted d cert.setup points claims → All (IsTrueClaim d cert) (map told claims)
-true_all d cert [] [] in_points in_claims a = All-nil (IsTrueClaim d cert)
-true_all d cert [] (c ∷ cs) in_points in_claims a = absurd a
-true_all d cert (p ∷ ps) [] in_points in_claims a = absurd a
-true_all d cert (p ∷ ps) (c ∷ cs) in_points in_claims a =
-    All-cons (IsTrueClaim d cert) (told c) (map told cs) (p, in_points p (first_in p ps), sym a.0, true_one d cert p c c.body refl (in_claims c (first_in c cs)) a.0 a.1) (true_all d cert ps cs (λ q k. in_points q (rest_in p ps q k)) (λ q k. in_claims q (rest_in c cs q k)) a.2)
+-- the sites of points
+abbrev pub sites_of : List Point → List ℕ
+sites_of points = map (λ (p : Point). site_of p.test) points
 
 -- the claims are for the points, in order
-same_points : (d : Design) (setup : Setup) (points : List Point) (claims : List CertClaim) → Accepted d setup points claims → map (λ (c : Claim). c.point) (map told claims) ≡ map (λ (p : Point). p.name) points
-same_points d setup [] [] a = refl
-same_points d setup [] (c ∷ cs) a = absurd a
-same_points d setup (p ∷ ps) [] a = absurd a
-same_points d setup (p ∷ ps) (c ∷ cs) a =
-    ap (λ n. n ∷ map (λ (c : Claim). c.point) (map told cs)) a.0 ∙ ap (λ ns. p.name ∷ ns) (same_points d setup ps cs a.2)
+same_points : (m : Machine) (d : Design) (setup : Setup) (k : ℕ) (points : List Point) (claims : List CertClaim) → Accepted m d setup k points claims →
+    map (λ (c : Claim). c.point) (map told claims) ≡ map (λ (p : Point). p.name) points
+same_points m d setup k [] [] a = refl
+same_points m d setup k [] (c ∷ cs) a = absurd a
+same_points m d setup k (p ∷ ps) [] a = absurd a
+same_points m d setup k (p ∷ ps) (c ∷ cs) a =
+    ap (λ n. n ∷ map (λ (c : Claim). c.point) (map told cs)) a.0 ∙ ap (λ ns. p.name ∷ ns) (same_points m d setup (k + 1) ps cs a.2)
 
-pub true_where_judged : (tree : Tree) (cert : Cert) (claims : List Claim) → Judges tree cert (Ok claims) → AreTrue tree cert claims
-true_where_judged tree cert claims a =
-    let P : List Claim → Type 0 = λ cs. (map (λ (c : Claim). c.point) cs ≡ map (λ (p : Point). p.name) (points_of a.0 cert.setup)) × All (IsTrueClaim a.0 cert) cs in
-    let both : P claims = subst P (sym a.3) (same_points a.0 cert.setup (points_of a.0 cert.setup) cert.claims a.2, true_all a.0 cert (points_of a.0 cert.setup) cert.claims (λ p k. k) (λ c k. k) a.2) in
-    (a.0, a.1, both.0, both.1)
+module _ (d : Design) (legal : IsLegal d []) (cert : Cert) (m : Machine) (valid : IsMachine m) (all : List Point) (bridge : Bridge d (sites_of all) m) (plain : cert.setup.cycles ≡ 0) where
+  abbrev names : List (List ℕ)
+  names = state_names m.states
+
+  -- an accepted ladder for a point is true of the design
+  never : (k : ℕ) (test : Test) (l : NamedLadder) → slice_get (sites_of all) k ≡ Some (site_of test) → Shows m k Forever l → Never d cert.setup (hit_by d test)
+  never k (Passed site) l at shows = (bridge.never cert.setup k site plain at).0 (never-hits m valid k (ladder_of names Forever l) shows)
+
+  within : (k cycles : ℕ) (test : Test) (l : NamedLadder) → slice_get (sites_of all) k ≡ Some (site_of test) → Shows m k (Steps cycles) l → NotWithin d cert.setup (hit_by d test) cycles
+  within k cycles (Passed site) l at shows = (bridge.within cert.setup k site cycles plain at).0 (never-hits m valid k (ladder_of names (Steps cycles) l) shows)
+
+  -- a claim that holds is true
+  true_one : (k : ℕ) (p : Point) (c : CertClaim) (body : Body) → slice_get (sites_of all) k ≡ Some (site_of p.test) → c.body ≡ body → Contains cert.claims c → c.point ≡ p.name →
+      Holds m d cert.setup k p body → IsTrueOf d cert p (verdict_of body)
+  true_one k p c (Reached cycle stimulus) at e there name holds =
+      (c, stimulus, there, name, e, holds, run_exists d [] legal stimulus.start stimulus.lines holds.fits.start.wide holds.fits.wide)
+  true_one k p c (Excluded l) at e there name holds = never k p.test l at holds
+  true_one k p c (Open cycles l) at e there name holds = within k cycles p.test l at holds
+
+  -- what is said of a claim
+  abbrev IsTrueClaim : Claim → Type 0
+  IsTrueClaim c = (p : Point) × Contains all p × (p.name ≡ c.point) × IsTrueOf d cert p c.verdict
+
+  -- these points stand among all from the k-th on
+  abbrev StandFrom : ℕ → List Point → Type 0
+  StandFrom k points = (j : ℕ) (p : Point) → slice_get points j ≡ Some p → slice_get all (k + j) ≡ Some p
+
+  stand_later : (k : ℕ) (p : Point) (ps : List Point) → StandFrom k (p ∷ ps) → StandFrom (k + 1) ps
+  stand_later k p ps at j q h =
+      let moved : k + (j + 1) ≡ k + 1 + j = omega arith in
+      subst (λ n. slice_get all n ≡ Some q) moved (at (j + 1) q (rw add-one h))
+
+  true_all : (k : ℕ) (points : List Point) (claims : List CertClaim) → StandFrom k points → ((p : Point) → Contains points p → Contains all p) →
+      ((c : CertClaim) → Contains claims c → Contains cert.claims c) → Accepted m d cert.setup k points claims → All IsTrueClaim (map told claims)
+  true_all k [] [] at in_points in_claims a = All-nil IsTrueClaim
+  true_all k [] (c ∷ cs) at in_points in_claims a = absurd a
+  true_all k (p ∷ ps) [] at in_points in_claims a = absurd a
+  true_all k (p ∷ ps) (c ∷ cs) at in_points in_claims a =
+      let here : slice_get all k ≡ Some p = subst (λ n. slice_get all n ≡ Some p) (omega arith) (at 0 p refl) in
+      let site : slice_get (sites_of all) k ≡ Some (site_of p.test) = slice_get-map (λ (q : Point). site_of q.test) all k ∙ ap (option_map (λ (q : Point). site_of q.test)) here in
+      All-cons IsTrueClaim (told c) (map told cs)
+      (p, in_points p (first_in p ps), sym a.0, true_one k p c c.body site refl (in_claims c (first_in c cs)) a.0 a.1)
+      (true_all (k + 1) ps cs (stand_later k p ps at) (λ q h. in_points q (rest_in p ps q h)) (λ q h. in_claims q (rest_in c cs q h)) a.2)
+
+-- where the claims are accepted, they are true
+pub true_where_judged :
+    (tree : Tree) (cert : Cert) (d : Design) (m : Machine) → IsMachine m → Bridge d (sites_of (points_of d cert.setup)) m → cert.setup.cycles ≡ 0 → IsElaborated tree cert.setup d →
+    (result : Result (List Claim) CheckError) → JudgesClaims m d cert.setup (points_of d cert.setup) cert.claims result → IfOk result (λ claims. AreTrue tree cert claims)
+true_where_judged tree cert d m valid bridge plain is (Ok claims) h =
+    let all = points_of d cert.setup in
+    let legal = text_design_is_legal tree cert.setup d is.design in
+    let P : List Claim → Type 0 = λ cs. (map (λ (c : Claim). c.point) cs ≡ map (λ (p : Point). p.name) all) × All (IsTrueClaim d legal cert m valid all bridge plain) cs in
+    let stands : StandFrom d legal cert m valid all bridge plain 0 all = λ j p at. subst (λ n. slice_get all n ≡ Some p) (omega arith) at in
+    let both : P claims = subst P (sym h.1) (same_points m d cert.setup 0 all cert.claims h.0, true_all d legal cert m valid all bridge plain 0 all cert.claims stands (λ p k. k) (λ c k. k) h.0) in
+    (d, is, both.0, both.1)
+true_where_judged tree cert d m valid bridge plain is (Err error) h = tt

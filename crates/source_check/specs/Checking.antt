@@ -14,10 +14,11 @@ use Rattle.cert_text.specs.Answers.{CertAnswers}
 use Rattle.source_check.specs.declared.error.SourceError.{SourceError}
 use Rattle.source_check.specs.declared.error.SourceError.TheVariants as source
 use Rattle.source_check.specs.declared.error.CheckError.{CheckError}
-use Rattle.source_check.specs.declared.error.CheckError.TheVariants.{Source, Cert as Unread, WrongPoint, Missing, NotHit, Memory}
+use Rattle.source_check.specs.declared.error.CheckError.TheVariants.{Source, Cert as Unread, WrongPoint, Missing, NotHit, Ladder, Memory}
 use Rattle.source_check.specs.declared.points.Front.{Front}
 use Rattle.source_check.specs.Built.{IsBuilt}
-use Rattle.source_check.specs.Flat.{IsDesignOf, first_place}
+use Rattle.source_check.specs.Flat.{first_place}
+use Rattle.source_check.specs.Legal.{IsElaborated, TooCostly}
 use Rattle.source_check.specs.Points.{points_of}
 use Rattle.source_check.specs.Judging.{Judges, AreTrue}
 
@@ -39,23 +40,26 @@ abbrev pub ReadsText : List ℕ → Result Tree SourceError → Type 0
 ReadsText text (Ok tree) = TextAnswers text (Ok tree)
 ReadsText text (Err (source.Text error)) = TextRefused text error
 ReadsText text (Err (source.NotBuilt at)) = ⊥
+ReadsText text (Err (source.CostOver cost)) = ⊥
 ReadsText text (Err source.Memory) = Unit {0}
 
 -- the text has a tree, and the certificate can be read, and the one is judged by the other with this answer
 abbrev pub ReadAndJudged : List ℕ → List ℕ → Result (List Claim) CheckError → Type 0
 ReadAndJudged text cert result = (tree : Tree) × (c : Cert) × TextAnswers text (Ok tree) × CertAnswers cert (Ok c) × Judges tree c result
 
--- The answer of checking. The first that applies: the text has no tree; the certificate can't be read; the text has no design;
--- the first claim that fails; the claims. Nothing where memory ran out.
+-- The answer of checking. The first that applies: the text has no tree; the certificate can't be read; the text has no design, or one
+-- that costs too much; the first claim that fails; the claims. Nothing where memory ran out.
 abbrev pub CheckAnswers : List ℕ → List ℕ → Result (List Claim) CheckError → Type 0
 CheckAnswers text cert (Ok claims) = ReadAndJudged text cert (Ok claims)
 CheckAnswers text cert (Err (Source (source.Text error))) = TextRefused text error
 CheckAnswers text cert (Err (Source (source.NotBuilt at))) = ReadAndJudged text cert (Err (Source (source.NotBuilt at)))
+CheckAnswers text cert (Err (Source (source.CostOver cost))) = ReadAndJudged text cert (Err (Source (source.CostOver cost)))
 CheckAnswers text cert (Err (Source source.Memory)) = ⊥
 CheckAnswers text cert (Err (Unread error)) = (tree : Tree) × TextAnswers text (Ok tree) × CertRefused cert error
 CheckAnswers text cert (Err (WrongPoint line)) = ReadAndJudged text cert (Err (WrongPoint line))
 CheckAnswers text cert (Err (Missing point)) = ReadAndJudged text cert (Err (Missing point))
 CheckAnswers text cert (Err (NotHit point)) = ReadAndJudged text cert (Err (NotHit point))
+CheckAnswers text cert (Err (Ladder point fault)) = ReadAndJudged text cert (Err (Ladder point fault))
 CheckAnswers text cert (Err Memory) = Unit {0}
 
 -- each of the claims is true of the text, whose tree and certificate these are
@@ -65,7 +69,8 @@ ClaimsAreTrue text cert claims = (tree : Tree) × (c : Cert) × TextAnswers text
 -- the answer of the front: the legal design of the text and its points; or why there is none; nothing where memory ran out
 abbrev pub FrontAnswers : List ℕ → Setup → Result Front SourceError → Type 0
 FrontAnswers text setup (Ok front) =
-    (tree : Tree) × TextAnswers text (Ok tree) × IsDesignOf tree setup front.legal.design × (front.points ≡ points_of front.legal.design setup)
+    (tree : Tree) × TextAnswers text (Ok tree) × IsElaborated tree setup front.legal.design × (front.points ≡ points_of front.legal.design setup)
 FrontAnswers text setup (Err (source.Text error)) = TextRefused text error
 FrontAnswers text setup (Err (source.NotBuilt at)) = (tree : Tree) × TextAnswers text (Ok tree) × (IsBuilt tree setup → ⊥) × (at ≡ first_place tree)
+FrontAnswers text setup (Err (source.CostOver cost)) = (tree : Tree) × TextAnswers text (Ok tree) × TooCostly tree setup cost
 FrontAnswers text setup (Err source.Memory) = Unit {0}

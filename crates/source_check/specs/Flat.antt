@@ -45,8 +45,6 @@ use Rattle.design_core.specs.declared.flat.ArmKind.TheVariants.{Then, Else}
 use Rattle.source_check.specs.Statements.{body_of, all_parts, assignments_in, branches_in}
 use Rattle.source_check.specs.declared.flatten.build.Numbers.{Numbers}
 use Rattle.word_core.specs.declared.place.Place.{Place}
-use Rattle.design_core.specs.Ordered.{Ordered}
-use Rattle.design_core.specs.Legality.{IsLegal}
 use Rattle.source_check.specs.declared.flatten.FlatError.{FlatError}
 use Rattle.source_check.specs.declared.flatten.FlatError.TheVariants.{NotBuilt, Memory}
 use Rattle.source_check.specs.Built.{port_names, IsBuilt, IsBuiltModule}
@@ -228,8 +226,3 @@ abbrev pub Flattens : Tree → Setup → Result Design FlatError → Type 0
 Flattens tree setup (Ok d) = IsDesignOf tree setup d × (length d.sites < 2 ^ 32)
 Flattens tree setup (Err (NotBuilt at)) = (IsBuilt tree setup → ⊥) × (at ≡ first_place tree)
 Flattens tree setup (Err Memory) = Unit {0}
-
--- the answer of elaboration: a legal design that is the text's, or what flattening refuses
-abbrev pub Elaborates : Tree → Setup → Result Ordered FlatError → Type 0
-Elaborates tree setup (Ok legal) = IsDesignOf tree setup legal.design × (length legal.design.sites < 2 ^ 32) × IsLegal legal.design legal.order
-Elaborates tree setup (Err error) = Flattens tree setup (Err error)

@@ -33,3 +33,7 @@ hit_by d (Passed site) = Passes d site
 -- the site of the point is one of so many
 abbrev pub IsSiteBelow : ℕ → Test → Type 0
 IsSiteBelow sites (Passed site) = site < sites
+
+-- the site of the point
+abbrev pub site_of : Test → ℕ
+site_of (Passed site) = site

@@ -24,7 +24,8 @@ pub fn check(alloc: Global, text: &[u8], cert: &[u8]) -> Result<Items<Claim>, Ch
     judge(alloc, &tree, &cert)
 }
 
-/// The legal design of a text under a setup, and its cover points.
+/// The legal design of a text under a setup, and its cover points: those of statements, where the setup names
+/// their kind. Other kinds have none so far, and no prelude is looked at.
 pub fn front(alloc: Global, text: &[u8], setup: &Setup) -> Result<Front, SourceError>
     ensures { FrontAnswers text.now setup.now result }
 {

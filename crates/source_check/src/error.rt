@@ -2,6 +2,7 @@
 
 use crate::flatten::FlatError;
 use cert_text::CertError;
+use ladder_check::LadderFault;
 use std::alloc::AllocError;
 use vlog_items::TextError;
 use word_core::{Name, Place};
@@ -13,6 +14,9 @@ pub enum SourceError {
     Text(TextError),
     /// Its tree has no design so far. The place is that of the text's first token.
     NotBuilt { at: Place },
+    /// Its design costs more than 4,194,304, in the measure of a circuit's size that `plain_blast` gives. The
+    /// cost is what it costs, or the greatest u64 where that is less.
+    CostOver { cost: u64 },
     /// Memory ran out, or the design would have 2^32 sites or more.
     Memory,
 }
@@ -41,6 +45,8 @@ pub enum CheckError {
     Missing { point: Name },
     /// The claim for this point says of its stimulus what isn't so.
     NotHit { point: Name },
+    /// The ladder of the claim for this point doesn't show what is claimed. The fault isn't want of memory.
+    Ladder { point: Name, fault: LadderFault },
     /// Memory ran out, or the design would have 2^32 sites or more.
     Memory,
 }

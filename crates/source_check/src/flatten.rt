@@ -4,7 +4,7 @@ mod build;
 mod check;
 mod drivers;
 mod ports;
-mod scope;
+pub mod scope;
 
 ghost use Rattle.std.specs.Prelude.{◌≡◌, ◌<◌, ◌^◌, length, MatchOption, IfOk};
 ghost use Rattle.source_check.specs.Built.{IsBuiltModule};

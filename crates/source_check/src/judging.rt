@@ -1,22 +1,38 @@
 // From a tree and a certificate to claims that are true.
 
-ghost use Rattle.std.specs.Prelude.{◌≡◌, ◌↔◌, ◌<◌, [], length, All, IsTrue, IfOk};
+ghost use Rattle.std.specs.Prelude.{◌≡◌, ◌↔◌, ◌<◌, ◌≤◌, ◌^◌, [], length, map, All, IsTrue, IfOk};
+ghost use Rattle.aig_core.specs.Graph.{node_count};
 ghost use Rattle.design_core.specs.Verdicts.{HitAt};
-ghost use Rattle.source_check.specs.Points.{IsSiteBelow, hit_by};
-ghost use Rattle.source_check.specs.Judging.{claimed_cycle, claimed_stimulus, Holds, JudgesClaim, verdict_of, told, JudgesClaims, Judges, AreTrue};
+ghost use Rattle.source_check.specs.Points.{IsSiteBelow, site_of, hit_by};
+ghost use Rattle.source_check.specs.Ladders.{state_names};
+ghost use Rattle.source_check.specs.Judging.{IsRefusal, JudgesLadder, JudgesStimulus, JudgesBody, JudgesClaim, verdict_of, told, JudgesClaims, Judges, AreTrue};
 
-use crate::error::{CheckError, SourceError};
-use crate::flatten::FlatError;
+use crate::error::CheckError;
+use crate::flatten::scope::Scope;
+use crate::ladders::{check_named, names_of};
 use crate::legality::elaborate;
 use crate::points::{Point, Test, points};
-use cert_text::{Body, Cert, CertClaim, Claim, Verdict};
+use bit_system::{Depth, System};
+use cert_text::{Body, Cert, CertClaim, Claim, NamedLadder, Verdict};
 use cycle_model::replay::hits_at;
 use design_core::legal::Legal;
 use design_core::setup::{Setup, Stimulus};
+use ladder_check::{LadderFault, checker_for};
+use lrat_check::Checker;
+use plain_blast::translate;
 use sqlite_items::Items;
 use std::alloc::{AllocError, Global};
 use vlog_tree::Tree;
 use word_core::Name;
+
+/// What claims are judged by: a legal design, and its system with the names of the state bits.
+#[derive(Drop)]
+struct Grounds<'a> {
+    legal: &'a Legal,
+    setup: &'a Setup,
+    system: System,
+    names: Scope,
+}
 
 /// Whether the stimulus hits a point at this cycle and at none before.
 fn is_hit(
@@ -36,59 +52,129 @@ fn is_hit(
     }
 }
 
-/// The cycle that is claimed to be reached.
-fn cycle_of(body: &Body) -> u64
-    ensures { result ≡ claimed_cycle body.now }
+/// The refusal of a ladder for a point.
+fn refused(alloc: Global, point: &Point, fault: LadderFault) -> CheckError
+    ensures { IsRefusal point.now.name fault result }
 {
-    match body {
-        Body::Reached { cycle, .. } => *cycle,
+    if fault == LadderFault::Memory {
+        return CheckError::Memory;
+    }
+    match Name::make(alloc, point.name.bytes()) {
+        Ok(point) => CheckError::Ladder { point, fault },
+        Err(_) => CheckError::Memory,
     }
 }
 
-/// The stimulus that is claimed to reach it.
-fn stimulus_of(body: &Body) -> &Stimulus
-    ensures { result.now ≡ claimed_stimulus body.now }
-{
-    match body {
-        Body::Reached { stimulus, .. } => stimulus,
-    }
-}
-
-/// Whether what is claimed of a point holds.
-fn holds(
+/// Whether a ladder shows that the k-th point isn't hit within this depth.
+fn judge_ladder(
     alloc: Global,
-    legal: &Legal,
-    setup: &Setup,
-    test: &Test,
-    body: &Body,
-) -> Result<bool, AllocError>
-    requires hold { setup.now.hold ≡ [] }
-    requires site { IsSiteBelow (length legal.now.design.sites) test.now }
-    ensures { IfOk result (λ yes. IsTrue yes ↔ Holds legal.now.design setup.now test.now body.now) }
-{
-    is_hit(alloc, legal, setup, test, stimulus_of(body), cycle_of(body))
-}
-
-/// Judges a claim against the next point of the list: first whether it is for that point, then whether it holds.
-fn judge_claim(
-    alloc: Global,
-    legal: &Legal,
-    setup: &Setup,
+    grounds: &Grounds<'_>,
+    k: u32,
     point: &Point,
-    claim: &CertClaim,
+    depth: Depth,
+    ladder: &NamedLadder,
+    checker: &mut Checker,
 ) -> Result<(), CheckError>
-    requires hold { setup.now.hold ≡ [] }
-    requires site { IsSiteBelow (length legal.now.design.sites) point.now.test }
-    ensures { JudgesClaim legal.now.design setup.now point.now claim.now result }
+    requires names { grounds.now.names ≡ state_names grounds.now.system.states }
+    requires point { k < length grounds.now.system.hits }
+    requires vars { checker.old.vars ≡ node_count grounds.now.system.graph }
+    ensures judged { JudgesLadder grounds.now.system k point.now depth ladder.now result }
+    ensures vars { checker.new.vars ≡ checker.old.vars }
 {
-    if claim.point != point.name {
-        return Err(CheckError::WrongPoint { line: claim.line });
+    // Shows that the parts of the system fit.
+    let _states = grounds.system.states();
+    match check_named(
+        alloc,
+        &grounds.system,
+        &grounds.names,
+        k,
+        depth,
+        ladder,
+        checker,
+    ) {
+        Ok(()) => Ok(()),
+        Err(fault) => Err(refused(alloc, point, fault)),
     }
-    if !holds(alloc, legal, setup, &point.test, &claim.body)? {
+}
+
+/// Whether the stimulus hits the point at this cycle and at none before.
+fn judge_stimulus(
+    alloc: Global,
+    grounds: &Grounds<'_>,
+    point: &Point,
+    stimulus: &Stimulus,
+    cycle: u64,
+) -> Result<(), CheckError>
+    requires hold { grounds.now.setup.now.hold ≡ [] }
+    requires site { IsSiteBelow (length grounds.now.legal.now.design.sites) point.now.test }
+    ensures { JudgesStimulus grounds.now.legal.now.design grounds.now.setup.now point.now stimulus.now cycle result }
+{
+    if !is_hit(
+        alloc,
+        grounds.legal,
+        grounds.setup,
+        &point.test,
+        stimulus,
+        cycle,
+    )? {
         let point = Name::make(alloc, point.name.bytes())?;
         return Err(CheckError::NotHit { point });
     }
     Ok(())
+}
+
+/// Judges what is claimed of the k-th point.
+fn judge_body(
+    alloc: Global,
+    grounds: &Grounds<'_>,
+    k: u32,
+    point: &Point,
+    body: &Body,
+    checker: &mut Checker,
+) -> Result<(), CheckError>
+    requires hold { grounds.now.setup.now.hold ≡ [] }
+    requires site { IsSiteBelow (length grounds.now.legal.now.design.sites) point.now.test }
+    requires names { grounds.now.names ≡ state_names grounds.now.system.states }
+    requires point { k < length grounds.now.system.hits }
+    requires vars { checker.old.vars ≡ node_count grounds.now.system.graph }
+    ensures judged { JudgesBody grounds.now.system grounds.now.legal.now.design grounds.now.setup.now k point.now body.now result }
+    ensures vars { checker.new.vars ≡ checker.old.vars }
+{
+    match body {
+        Body::Reached { cycle, stimulus } => {
+            judge_stimulus(alloc, grounds, point, stimulus, *cycle)
+        }
+        Body::Excluded(ladder) => {
+            judge_ladder(alloc, grounds, k, point, Depth::All, ladder, checker)
+        }
+        Body::Open { cycles, ladder } => {
+            let depth = Depth::Steps(*cycles);
+            judge_ladder(alloc, grounds, k, point, depth, ladder, checker)
+        }
+    }
+}
+
+/// Judges a claim against the k-th point of the list: first whether it is for that point, then whether it holds.
+fn judge_claim(
+    alloc: Global,
+    grounds: &Grounds<'_>,
+    k: u32,
+    point: &Point,
+    claim: &CertClaim,
+    checker: &mut Checker,
+) -> Result<(), CheckError>
+    requires hold { grounds.now.setup.now.hold ≡ [] }
+    requires site { IsSiteBelow (length grounds.now.legal.now.design.sites) point.now.test }
+    requires names { grounds.now.names ≡ state_names grounds.now.system.states }
+    requires point { k < length grounds.now.system.hits }
+    requires vars { checker.old.vars ≡ node_count grounds.now.system.graph }
+    ensures judged { JudgesClaim grounds.now.system grounds.now.legal.now.design grounds.now.setup.now k point.now claim.now result }
+    ensures vars { checker.new.vars ≡ checker.old.vars }
+{
+    if claim.point != point.name {
+        return Err(CheckError::WrongPoint { line: claim.line });
+    }
+    judge_body(alloc, grounds, k, point, &claim.body, checker)
 }
 
 /// What is told of an accepted body.
@@ -97,6 +183,8 @@ fn verdict(body: &Body) -> Verdict
 {
     match body {
         Body::Reached { cycle, .. } => Verdict::Reached { cycle: *cycle },
+        Body::Excluded(_) => Verdict::Excluded,
+        Body::Open { cycles, .. } => Verdict::Open { cycles: *cycles },
     }
 }
 
@@ -113,14 +201,18 @@ fn tell(alloc: Global, claim: &CertClaim) -> Result<Claim, AllocError>
 /// Judges the claims one after another, each against the next point of the list.
 fn judge_claims(
     alloc: Global,
-    legal: &Legal,
-    setup: &Setup,
+    grounds: &Grounds<'_>,
     points: &[Point],
     claims: &[CertClaim],
+    checker: &mut Checker,
 ) -> Result<Items<Claim>, CheckError>
-    requires hold { setup.now.hold ≡ [] }
-    requires sites { All (λ p. IsSiteBelow (length legal.now.design.sites) p.test) points.now }
-    ensures { JudgesClaims legal.now.design setup.now points.now claims.now result }
+    requires hold { grounds.now.setup.now.hold ≡ [] }
+    requires sites { All (λ p. IsSiteBelow (length grounds.now.legal.now.design.sites) p.test) points.now }
+    requires names { grounds.now.names ≡ state_names grounds.now.system.states }
+    requires points { length points.now ≡ length grounds.now.system.hits }
+    requires few { length points.now ≤ 2 ^ 32 }
+    requires vars { checker.old.vars ≡ node_count grounds.now.system.graph }
+    ensures { JudgesClaims grounds.now.system grounds.now.legal.now.design grounds.now.setup.now points.now claims.now result }
 {
     let mut accepted = Items::new(alloc);
     for k in 0..claims.len() {
@@ -128,7 +220,7 @@ fn judge_claims(
         if k >= points.len() {
             return Err(CheckError::WrongPoint { line: claim.line });
         }
-        judge_claim(alloc, legal, setup, &points[k], claim)?;
+        judge_claim(alloc, grounds, k as u32, &points[k], claim, checker)?;
         accepted.push(tell(alloc, claim)?)?;
     }
     if claims.len() < points.len() {
@@ -138,25 +230,46 @@ fn judge_claims(
     Ok(accepted)
 }
 
+/// The sites of points.
+fn sites_of(alloc: Global, points: &[Point]) -> Result<Vec<u32>, AllocError>
+    ensures { IfOk result (λ sites. sites.items ≡ map (λ p. site_of p.test) points.now) }
+{
+    let mut sites = Vec::new(alloc);
+    for point in points {
+        sites.push(site(&point.test))?;
+    }
+    Ok(sites)
+}
+
+/// The site of a point.
+fn site(test: &Test) -> u32
+    ensures { result ≡ site_of test.now }
+{
+    match test {
+        Test::Passed { site } => *site,
+    }
+}
+
 /// The claims of a certificate for a text's tree, where it is accepted; each is true. Otherwise the first fault.
-/// A claim takes the time of its stimulus's lines times the design.
+/// A reached claim takes the time of its stimulus's lines times the design, and another one that of its queries
+/// and its lines of proof.
 pub fn judge(alloc: Global, tree: &Tree, cert: &Cert) -> Result<Items<Claim>, CheckError>
+    requires { cert.now.setup.cycles ≡ 0 }
     ensures judged { Judges tree.now cert.now result }
     ensures true_claims { IfOk result (λ claims. AreTrue tree.now cert.now claims) }
 {
-    let legal = match elaborate(alloc, tree, &cert.setup) {
-        Ok(legal) => legal,
-        Err(FlatError::NotBuilt { at }) => {
-            return Err(CheckError::Source(SourceError::NotBuilt { at }));
-        }
-        Err(FlatError::Memory) => return Err(CheckError::Memory),
-    };
+    let legal = elaborate(alloc, tree, &cert.setup)?;
     let points = points(alloc, legal.design(), &cert.setup)?;
-    judge_claims(
-        alloc,
-        &legal,
-        &cert.setup,
-        points.as_slice(),
-        cert.claims.as_slice(),
-    )
+    let sites = sites_of(alloc, points.as_slice())?;
+    let system = translate(alloc, &legal, &sites)?;
+    let names = names_of(alloc, system.states())?;
+    let mut checker = checker_for(alloc, &system)?;
+    let grounds = Grounds {
+        legal: &legal,
+        setup: &cert.setup,
+        system,
+        names,
+    };
+    let claims = cert.claims.as_slice();
+    judge_claims(alloc, &grounds, points.as_slice(), claims, &mut checker)
 }

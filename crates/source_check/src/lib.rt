@@ -5,6 +5,7 @@ mod checking;
 mod error;
 mod flatten;
 mod judging;
+mod ladders;
 mod legality;
 mod points;
 mod reading;

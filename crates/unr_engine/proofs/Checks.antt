@@ -11,7 +11,7 @@ use Rattle.cert_text.specs.declared.claim.Claim.{Claim}
 use Rattle.cert_text.specs.Answers.{CertAnswers}
 use Rattle.source_check.specs.declared.error.CheckError.{CheckError}
 use Rattle.source_check.specs.Checking.{ReadAndJudged}
-use Rattle.source_check.specs.Judging.{Judges}
+use Rattle.source_check.specs.Judging.{Judges, AreTrue}
 use Rattle.unr_engine.specs.declared.stop.Refusal.TheVariants as refusal
 use Rattle.unr_engine.specs.Content.{SpellNothing, CheckRefuses, Answers}
 use Rattle.unr_engine.specs.Report.{report}
@@ -33,7 +33,7 @@ text_so text text' result same answers = let P : List ℕ → Type 0 = λ bytes.
 pub cert_so : (text text' : List ℕ) (result : Result Cert CertError) → text' ≡ text → CertAnswers text' result → CertAnswers text result
 cert_so text text' result same answers = let P : List ℕ → Type 0 = λ bytes. CertAnswers bytes result in subst P same answers
 
-judged_so : (text text' spelling spelling' : List ℕ) (tree : Tree) (certificate : Cert) (result : Result (List Claim) CheckError) → text' ≡ text → spelling' ≡ spelling → TextAnswers text' (Ok tree) → CertAnswers spelling' (Ok certificate) → Judges tree certificate result → ReadAndJudged text spelling result
+abbrev judged_so : (text text' spelling spelling' : List ℕ) (tree : Tree) (certificate : Cert) (result : Result (List Claim) CheckError) → text' ≡ text → spelling' ≡ spelling → TextAnswers text' (Ok tree) → CertAnswers spelling' (Ok certificate) → Judges tree certificate result → ReadAndJudged text spelling result
 judged_so text text' spelling spelling' tree certificate result t s a b j =
     (tree, certificate, text_so text text' (Ok tree) t a, cert_so spelling spelling' (Ok certificate) s b, j)
 
@@ -67,14 +67,15 @@ pub check_refused : (text text' spelling spelling' : List ℕ) (tree : Tree) (ce
 check_refused text text' spelling spelling' tree certificate error t s a b j = (text, spelling, refl, judged_so text text' spelling spelling' tree certificate (Err error) t s a b j)
 
 -- and no refusal
-pub answered : (file cert text text' spelling spelling' : List ℕ) (tree : Tree) (certificate : Cert) (claims shown : List Claim) (put : List ℕ) → text' ≡ text → spelling' ≡ spelling → TextAnswers text' (Ok tree) → CertAnswers spelling' (Ok certificate) → Judges tree certificate (Ok claims) → shown ≡ claims → put ≡ report shown → Answers (Check_files file cert) (text ∷ spelling ∷ []) put
-answered file cert text text' spelling spelling' tree certificate claims shown put t s a b j same r = (
+pub answered : (file cert text text' spelling spelling' : List ℕ) (tree : Tree) (certificate : Cert) (claims shown : List Claim) (put : List ℕ) → text' ≡ text → spelling' ≡ spelling → TextAnswers text' (Ok tree) → CertAnswers spelling' (Ok certificate) → Judges tree certificate (Ok claims) → AreTrue tree certificate claims → shown ≡ claims → put ≡ report shown → Answers (Check_files file cert) (text ∷ spelling ∷ []) put
+answered file cert text text' spelling spelling' tree certificate claims shown put t s a b j facts same r = (
   text,
   spelling,
   refl,
   record {
     claims = claims;
     accepted = judged_so text text' spelling spelling' tree certificate (Ok claims) t s a b j;
+    are_true = facts;
     reported = r ∙ ap report same;
   },
 )

@@ -1,5 +1,5 @@
 -- The bytes of the files deserve one status.
-use Rattle.std.proofs.Common.{◌≡◌, ◌⊎◌, ℕ, ◌-◌, ◌^◌, List, [], ◌∷◌, take, Some, Result, Ok, Err, refl, ap, ◌∙◌, sym, subst, inl, inr, arith}
+use Rattle.std.proofs.Common.{◌≡◌, ◌⊎◌, ℕ, ◌+◌, ◌-◌, ◌^◌, List, [], ◌∷◌, take, Some, Result, Ok, Err, refl, ap, ◌∙◌, sym, subst, inl, inr, arith}
 use Rattle.unr_io.specs.Desk.{DeskState, Told, Rose}
 use Rattle.unr_io.specs.Sink.{SinkState}
 use Rattle.vlog_tree.specs.declared.Tree.{Tree}
@@ -26,7 +26,19 @@ use Rattle.source_check.specs.declared.points.Point.{Point}
 use Rattle.source_check.specs.Flat.{IsDesignOf, design_of}
 use Rattle.source_check.specs.Built.{IsBuilt}
 use Rattle.source_check.specs.Checking.{ReadAndJudged}
-use Rattle.source_check.specs.Judging.{Judges, Accepted, FirstFault, Fails}
+use Rattle.bit_system.specs.Machine.{Machine}
+use Rattle.bit_system.specs.Accepted.{IsAccepted}
+use Rattle.bit_system.specs.declared.ladder.Depth.TheVariants.{All as Forever, Steps}
+use Rattle.bit_system.specs.declared.ladder.Ladder.{Ladder}
+use Rattle.ladder_check.specs.declared.fault.LadderFault.{LadderFault}
+use Rattle.ladder_check.specs.declared.fault.LadderFault.TheVariants as ladder
+use Rattle.ladder_check.proofs.Refused.{refused}
+use Rattle.plain_blast.specs.Cost.{cost_of}
+use Rattle.cert_text.specs.declared.cert.Body.{Body}
+use Rattle.cert_text.specs.declared.cert.Body.TheVariants.{Reached, Excluded, Open}
+use Rattle.source_check.specs.Legal.{IsElaborated, TooCostly}
+use Rattle.source_check.specs.Ladders.{state_names, ladder_of, LadderRefused}
+use Rattle.source_check.specs.Judging.{system_of, Judges, Holds, Accepted, FirstFault, Fails, FailFirst}
 use Rattle.source_check.specs.Points.{points_of}
 use Rattle.unr_engine.specs.Statuses.{text_status, cert_status, check_status, refusal_status, status_of}
 use Rattle.unr_engine.specs.declared.stop.Refusal.{Refusal}
@@ -61,53 +73,83 @@ one_design tree setup d e a b =
     let same : a.0 ≡ b.0 = (let k : a.0 ∷ [] ≡ b.0 ∷ [] = sym a.1 ∙ b.1 in cc) in
     a.3 ∙ (ap (λ (m : Module). design_of m setup) same ∙ sym b.3)
 
+-- a ladder that is refused isn't accepted
+shows_or_not : (m : Machine) (k : ℕ) (l : Ladder) (f : LadderFault) → IsAccepted m k l → LadderRefused m k l f → ⊥
+shows_or_not m k l ladder.Shape a r = refused m k l ladder.Shape r (λ e. cc) a
+shows_or_not m k l (ladder.StartFails n) a r = refused m k l (ladder.StartFails n) r (λ e. cc) a
+shows_or_not m k l (ladder.Line query fault) a r = refused m k l (ladder.Line query fault) r (λ e. cc) a
+shows_or_not m k l ladder.Memory a r = r
+
+-- what holds of a point doesn't fail
+holds_or_fails : (m : Machine) (d : Design) (setup : Setup) (k : ℕ) (p : Point) (body : Body) (fault : CheckError) → Holds m d setup k p body → Fails m d setup k p body fault → ⊥
+holds_or_fails m d setup k p (Reached cycle stimulus) fault h f = f.0 h
+holds_or_fails m d setup k p (Excluded l) fault h f = shows_or_not m k (ladder_of (state_names m.states) Forever l) f.0 h f.2
+holds_or_fails m d setup k p (Open cycles l) fault h f = shows_or_not m k (ladder_of (state_names m.states) (Steps cycles) l) f.0 h f.2
+
 -- claims that are accepted have no fault
-no_fault : (d : Design) (setup : Setup) (points : List Point) (claims : List CertClaim) (fault : CheckError) → Accepted d setup points claims → FirstFault d setup points claims fault → ⊥
-no_fault d setup [] [] fault a f = f
-no_fault d setup [] (c ∷ cs) fault a f = a
-no_fault d setup (p ∷ ps) [] fault a f = a
-no_fault d setup (p ∷ ps) (c ∷ cs) fault a f =
+no_fault : (m : Machine) (d : Design) (setup : Setup) (k : ℕ) (points : List Point) (claims : List CertClaim) (fault : CheckError) → Accepted m d setup k points claims →
+    FirstFault m d setup k points claims fault → ⊥
+no_fault m d setup k [] [] fault a f = f
+no_fault m d setup k [] (c ∷ cs) fault a f = a
+no_fault m d setup k (p ∷ ps) [] fault a f = a
+no_fault m d setup k (p ∷ ps) (c ∷ cs) fault a f =
     elim f [
       | inl other ↦ other.0 a.0
       | inr more ↦ elim more [
-        | inl untrue ↦ untrue.1 a.1
-        | inr later ↦ no_fault d setup ps cs fault a.2 later.2
+        | inl untrue ↦ holds_or_fails m d setup k p c.body fault a.1 untrue.1
+        | inr later ↦ no_fault m d setup (k + 1) ps cs fault a.2 later.2
       ]
     ]
 
-accepted_or_fails : (tree : Tree) (cert : Cert) (claims : List Claim) (fault : CheckError) → Judges tree cert (Ok claims) → Fails tree cert fault → ⊥
+accepted_or_fails : (tree : Tree) (cert : Cert) (claims : List Claim) (fault : CheckError) → Judges tree cert (Ok claims) → FailFirst tree cert fault → ⊥
 accepted_or_fails tree cert claims fault a f =
-    let same = one_design tree cert.setup f.0 a.0 f.1 a.1 in
-    no_fault a.0 cert.setup (points_of a.0 cert.setup) cert.claims fault a.2 (let P : Design → Type 0 = λ d. FirstFault d cert.setup (points_of d cert.setup) cert.claims fault in subst P same f.2)
+    let same = one_design tree cert.setup f.0 a.0 f.1.design a.1.design in
+    no_fault (system_of a.0 cert.setup) a.0 cert.setup 0 (points_of a.0 cert.setup) cert.claims fault a.2
+    (let P : Design → Type 0 = λ d. FirstFault (system_of d cert.setup) d cert.setup 0 (points_of d cert.setup) cert.claims fault in subst P same f.2)
 
 built : (tree : Tree) (setup : Setup) (d : Design) → IsDesignOf tree setup d → IsBuilt tree setup
 built tree setup d a = (a.0, a.1, a.2)
 
+-- a design that may be taken doesn't cost too much
+cheap_or_costly : (tree : Tree) (setup : Setup) (d : Design) (cost : ℕ) → IsElaborated tree setup d → TooCostly tree setup cost → ⊥
+cheap_or_costly tree setup d cost a b =
+    let same = one_design tree setup d b.0 a.design b.1 in
+    let cheap = a.cheap in
+    let dear = b.2 in
+    omega (arith, ap cost_of same)
+
 accepted_or_none : (tree : Tree) (cert : Cert) (claims : List Claim) (error : CheckError) → Judges tree cert (Ok claims) → Judges tree cert (Err error) → check_status error ≡ 7
 accepted_or_none tree cert claims (check_error.Source (source_error.Text error)) a b = absurd b
-accepted_or_none tree cert claims (check_error.Source (source_error.NotBuilt place)) a b = absurd (b.0 (built tree cert.setup a.0 a.1))
+accepted_or_none tree cert claims (check_error.Source (source_error.NotBuilt place)) a b = absurd (b.0 (built tree cert.setup a.0 a.1.design))
+accepted_or_none tree cert claims (check_error.Source (source_error.CostOver cost)) a b = absurd (cheap_or_costly tree cert.setup a.0 cost a.1 b)
 accepted_or_none tree cert claims (check_error.Source source_error.Memory) a b = absurd b
 accepted_or_none tree cert claims (check_error.Cert error) a b = absurd b
 accepted_or_none tree cert claims (check_error.WrongPoint line) a b = absurd (accepted_or_fails tree cert claims (check_error.WrongPoint line) a b)
 accepted_or_none tree cert claims (check_error.Missing point) a b = absurd (accepted_or_fails tree cert claims (check_error.Missing point) a b)
 accepted_or_none tree cert claims (check_error.NotHit point) a b = absurd (accepted_or_fails tree cert claims (check_error.NotHit point) a b)
+accepted_or_none tree cert claims (check_error.Ladder point fault) a b = absurd (accepted_or_fails tree cert claims (check_error.Ladder point fault) a b)
 accepted_or_none tree cert claims check_error.Memory a b = refl
 
--- a refusal of the one for the other: the text has no design, or it has one and the claims fail, or memory ran out
-abbrev RefusedFor : Tree → Setup → ℕ → Type 0
-RefusedFor tree setup status = ((status ≡ 4) × (IsBuilt tree setup → ⊥)) ⊎ (((status ≡ 5) × IsBuilt tree setup) ⊎ (status ≡ 7))
+-- a refusal of the one for the other: the text has no design that may be taken, or it has one and the claims fail, or memory ran out
+abbrev MayBeTaken : Tree → Setup → Type 0
+MayBeTaken tree setup = (d : Design) × IsElaborated tree setup d
 
-fails_five : (tree : Tree) (cert : Cert) (fault : CheckError) → Fails tree cert fault → IsBuilt tree cert.setup
-fails_five tree cert fault f = built tree cert.setup f.0 f.1
+abbrev RefusedFor : Tree → Setup → ℕ → Type 0
+RefusedFor tree setup status = ((status ≡ 4) × (MayBeTaken tree setup → ⊥)) ⊎ (((status ≡ 5) × MayBeTaken tree setup) ⊎ (status ≡ 7))
+
+fails_five : (tree : Tree) (cert : Cert) (fault : CheckError) → FailFirst tree cert fault → MayBeTaken tree cert.setup
+fails_five tree cert fault f = (f.0, f.1)
 
 refused_for : (tree : Tree) (cert : Cert) (error : CheckError) → Judges tree cert (Err error) → RefusedFor tree cert.setup (check_status error)
 refused_for tree cert (check_error.Source (source_error.Text error)) b = absurd b
-refused_for tree cert (check_error.Source (source_error.NotBuilt place)) b = inl (refl, b.0)
+refused_for tree cert (check_error.Source (source_error.NotBuilt place)) b = inl (refl, λ x. b.0 (built tree cert.setup x.0 x.1.design))
+refused_for tree cert (check_error.Source (source_error.CostOver cost)) b = inl (refl, λ x. cheap_or_costly tree cert.setup x.0 cost x.1 b)
 refused_for tree cert (check_error.Source source_error.Memory) b = absurd b
 refused_for tree cert (check_error.Cert error) b = absurd b
 refused_for tree cert (check_error.WrongPoint line) b = inr (inl (refl, fails_five tree cert (check_error.WrongPoint line) b))
 refused_for tree cert (check_error.Missing point) b = inr (inl (refl, fails_five tree cert (check_error.Missing point) b))
 refused_for tree cert (check_error.NotHit point) b = inr (inl (refl, fails_five tree cert (check_error.NotHit point) b))
+refused_for tree cert (check_error.Ladder point fault) b = inr (inl (refl, fails_five tree cert (check_error.Ladder point fault) b))
 refused_for tree cert check_error.Memory b = inr (inr refl)
 
 agree_back : (a b : ℕ) → Agree a b → Agree b a

@@ -26,7 +26,6 @@ use Rattle.unr_engine.specs.Outcome.{IsFrontOf, next_load, load_calls, loads_of,
 use Rattle.unr_engine.specs.Promises.{AreTold, Accepts, Rejects, calls_for, MakesCalls, Blames, PutsPart, FilesStay}
 use Rattle.unr_engine.proofs.Putting.{appended_nothing}
 use Rattle.unr_engine.proofs.Runs.{tells_so}
-use Rattle.source_check.proofs.Truth.{true_where_judged}
 use Rattle.unr_engine.proofs.WordLists.{same_command}
 
 -- a refusal's status is 4, 5 or 7
@@ -50,6 +49,7 @@ of_cert cert.Memory = inr (inr refl)
 of_source : (error : SourceError) → IsRefusalStatus (source_status error)
 of_source (source.Text error) = of_text error
 of_source (source.NotBuilt place) = inl refl
+of_source (source.CostOver cost) = inl refl
 of_source source.Memory = inr (inr refl)
 
 of_check : (error : CheckError) → IsRefusalStatus (check_status error)
@@ -58,6 +58,7 @@ of_check (check.Cert error) = of_cert error
 of_check (check.WrongPoint line) = inr (inl refl)
 of_check (check.Missing point) = inr (inl refl)
 of_check (check.NotHit point) = inr (inl refl)
+of_check (check.Ladder point fault) = inr (inl refl)
 of_check check.Memory = inr (inr refl)
 
 of_refusal : (refusal : Refusal) → IsRefusalStatus (refusal_status refusal)
@@ -136,7 +137,7 @@ ran_accepts file cert Done desk desk' out out' ran e =
       told = (let P : List (List ℕ) → Type 0 = λ loaded. AreTold desk.told (Check_files file cert) loaded in subst P answer.2 (told_of (Check_files file cert) ran.loaded [] desk.told desk'.told ran.desk_kept));
       claims = reported.claims;
       judged = reported.accepted;
-      are_true = true_where_judged reported.accepted.0 reported.accepted.1 reported.claims reported.accepted.4;
+      are_true = reported.are_true;
       reported = ran.written ∙ ap (λ text. appended out.written text) reported.reported;
     }
 ran_accepts file cert (Stopped Not_words) desk desk' out out' ran e = absurd ran.reason

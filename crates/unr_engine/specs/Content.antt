@@ -6,6 +6,7 @@ use Rattle.cert_text.specs.declared.error.CertError.{CertError}
 use Rattle.cert_text.specs.declared.claim.Claim.{Claim}
 use Rattle.cert_text.specs.Answers.{CertAnswers}
 use Rattle.source_check.specs.Checking.{ReadAndJudged}
+use Rattle.source_check.specs.Judging.{AreTrue}
 use Rattle.unr_engine.specs.declared.stop.Refusal.{Refusal}
 use Rattle.unr_engine.specs.declared.stop.Refusal.TheVariants as refusal
 use Rattle.unr_engine.specs.Report.{report}
@@ -17,10 +18,11 @@ pub record SpellNothing (text spelling : List ℕ) (error : CertError) : Type 0 
   pub text_of_tree : TextAnswers text (Ok tree)
   pub refused : CertAnswers spelling (Err error)
 
--- The certificate is accepted, and this is the report of its claims.
+-- The certificate is accepted, each of its claims is true of the text, and this is their report.
 pub record Report (text spelling report_text : List ℕ) : Type 0 where
   pub claims : List Claim
   pub accepted : ReadAndJudged text spelling (Ok claims)
+  pub are_true : AreTrue accepted.0 accepted.1 claims
   pub reported : report_text ≡ report claims
 
 -- FILE alone was loaded.

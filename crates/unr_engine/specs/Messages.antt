@@ -10,6 +10,13 @@ use Rattle.source_check.specs.declared.error.SourceError.{SourceError}
 use Rattle.source_check.specs.declared.error.SourceError.TheVariants as source
 use Rattle.source_check.specs.declared.error.CheckError.{CheckError}
 use Rattle.source_check.specs.declared.error.CheckError.TheVariants as check
+use Rattle.lrat_check.specs.declared.checker.LineFault.{LineFault}
+use Rattle.lrat_check.specs.declared.checker.LineFault.TheVariants as line
+use Rattle.ladder_check.specs.declared.fault.QueryFault.{QueryFault}
+use Rattle.ladder_check.specs.declared.fault.QueryFault.TheVariants as proof
+use Rattle.ladder_check.specs.declared.fault.Query.TheVariants as query
+use Rattle.ladder_check.specs.declared.fault.LadderFault.{LadderFault}
+use Rattle.ladder_check.specs.declared.fault.LadderFault.TheVariants as ladder
 use Rattle.unr_engine.specs.declared.stop.Refusal.{Refusal}
 use Rattle.unr_engine.specs.declared.stop.Refusal.TheVariants as refusal
 use Rattle.unr_engine.specs.Ends.{Why, Not_words, Fault_at, Fault_of_output, Out_of_memory, Not_taken, End, Done, Stopped}
@@ -37,7 +44,42 @@ abbrev pub source_message : SourceError → List ℕ
 source_message (source.Text error) = text_message error
 source_message (source.NotBuilt place) =
     codes "unr: source " ++ (decimal place.line ++ (codes ":" ++ (decimal place.col ++ codes " NotBuilt\n")))
+source_message (source.CostOver cost) = codes "unr: source CostOver " ++ (decimal cost ++ codes "\n")
 source_message source.Memory = memory_message
+
+-- what is wrong with a line of a proof, and the number that it is about
+abbrev pub line_name : LineFault → List ℕ
+line_name (line.OldId id) = codes " OldId "
+line_name (line.BadVar id) = codes " BadVar "
+line_name (line.NoHint id) = codes " NoHint "
+line_name (line.NotUnit id) = codes " NotUnit "
+line_name (line.NotClosed id) = codes " NotClosed "
+
+abbrev pub line_number : LineFault → ℕ
+line_number (line.OldId id) = id
+line_number (line.BadVar id) = id
+line_number (line.NoHint id) = id
+line_number (line.NotUnit id) = id
+line_number (line.NotClosed id) = id
+
+-- the message about the proof of a lemma
+abbrev pub step_message : List ℕ → ℕ → QueryFault → List ℕ
+step_message point lemma (proof.Line fault) =
+    codes "unr: claim " ++ (point ++ (codes " Ladder step " ++ (decimal lemma ++ (line_name fault ++ (decimal (line_number fault) ++ codes "\n")))))
+step_message point lemma proof.NoEnd = codes "unr: claim " ++ (point ++ (codes " Ladder step " ++ (decimal lemma ++ codes " NoEnd\n")))
+
+-- the message about the proof that a point isn't hit
+abbrev pub hit_message : List ℕ → QueryFault → List ℕ
+hit_message point (proof.Line fault) = codes "unr: claim " ++ (point ++ (codes " Ladder hit" ++ (line_name fault ++ (decimal (line_number fault) ++ codes "\n"))))
+hit_message point proof.NoEnd = codes "unr: claim " ++ (point ++ codes " Ladder hit NoEnd\n")
+
+-- the message about a ladder, of whose faults want of memory is none
+abbrev pub ladder_message : List ℕ → LadderFault → List ℕ
+ladder_message point ladder.Shape = codes "unr: claim " ++ (point ++ codes " Ladder Shape\n")
+ladder_message point (ladder.StartFails lemma) = codes "unr: claim " ++ (point ++ (codes " Ladder StartFails " ++ (decimal lemma ++ codes "\n")))
+ladder_message point (ladder.Line (query.Step lemma) fault) = step_message point lemma fault
+ladder_message point (ladder.Line query.Hit fault) = hit_message point fault
+ladder_message point ladder.Memory = memory_message
 
 abbrev pub check_message : CheckError → List ℕ
 check_message (check.Source error) = source_message error
@@ -45,6 +87,7 @@ check_message (check.Cert error) = cert_message error
 check_message (check.WrongPoint line) = codes "unr: cert point line " ++ (decimal line ++ codes "\n")
 check_message (check.Missing point) = codes "unr: claim " ++ (point ++ codes " Missing\n")
 check_message (check.NotHit point) = codes "unr: claim " ++ (point ++ codes " NotHit\n")
+check_message (check.Ladder point fault) = ladder_message point fault
 check_message check.Memory = memory_message
 
 abbrev pub refusal_message : Refusal → List ℕ

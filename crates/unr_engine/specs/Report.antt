@@ -1,12 +1,14 @@
 -- The report of claims, as text.
-use Rattle.std.specs.Prelude.{ℕ, List, [], ◌∷◌, ◌++◌, length, codes, decimal}
+use Rattle.std.specs.Prelude.{ℕ, Bool, true, false, List, [], ◌∷◌, ◌++◌, filter, length, codes, decimal}
 use Rattle.cert_text.specs.declared.claim.Claim.{Claim}
 use Rattle.cert_text.specs.declared.claim.Verdict.{Verdict}
-use Rattle.cert_text.specs.declared.claim.Verdict.TheVariants.{Reached}
+use Rattle.cert_text.specs.declared.claim.Verdict.TheVariants.{Reached, Excluded, Open}
 
 -- A claim's line: its verdict and its point.
 abbrev pub claim_line : Verdict → List ℕ → List ℕ
 claim_line (Reached cycle) point = codes "reached " ++ (decimal cycle ++ (codes " " ++ (point ++ codes "\n")))
+claim_line Excluded point = codes "excluded " ++ (point ++ codes "\n")
+claim_line (Open cycles) point = codes "open " ++ (decimal cycles ++ (codes " " ++ (point ++ codes "\n")))
 
 abbrev pub report_line : Claim → List ℕ
 report_line claim = claim_line claim.verdict claim.point
@@ -15,10 +17,31 @@ abbrev pub report_lines : List Claim → List ℕ
 report_lines [] = []
 report_lines (claim ∷ claims) = report_line claim ++ report_lines claims
 
--- The last line, over that many claims, all of which are reached.
-abbrev pub summary : ℕ → List ℕ
-summary count = codes "points " ++ (decimal count ++ (codes " excluded 0 reached " ++ (decimal count ++ codes " open 0\n")))
+abbrev pub is_excluded : Verdict → Bool
+is_excluded Excluded = true
+is_excluded (Reached cycle) = false
+is_excluded (Open cycles) = false
+
+abbrev pub is_reached : Verdict → Bool
+is_reached Excluded = false
+is_reached (Reached cycle) = true
+is_reached (Open cycles) = false
+
+abbrev pub is_open : Verdict → Bool
+is_open Excluded = false
+is_open (Reached cycle) = false
+is_open (Open cycles) = true
+
+-- How many claims have such a verdict.
+abbrev pub count : (Verdict → Bool) → List Claim → ℕ
+count test claims = length (filter (λ (c : Claim). test c.verdict) claims)
+
+-- The last line: how many claims there are, and how many of each verdict.
+abbrev pub summary : List Claim → List ℕ
+summary claims =
+    codes "points " ++ (decimal (length claims) ++ (codes " excluded " ++ (decimal (count is_excluded claims)
+    ++ (codes " reached " ++ (decimal (count is_reached claims) ++ (codes " open " ++ (decimal (count is_open claims) ++ codes "\n")))))))
 
 -- A line for each claim, in order, and the last line.
 abbrev pub report : List Claim → List ℕ
-report claims = report_lines claims ++ summary (length claims)
+report claims = report_lines claims ++ summary claims

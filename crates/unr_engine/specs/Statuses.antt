@@ -31,6 +31,7 @@ cert_status cert.Memory = 7
 abbrev pub source_status : SourceError → ℕ
 source_status (source.Text error) = text_status error
 source_status (source.NotBuilt place) = 4
+source_status (source.CostOver cost) = 4
 source_status source.Memory = 7
 
 abbrev pub check_status : CheckError → ℕ
@@ -39,6 +40,7 @@ check_status (check.Cert error) = cert_status error
 check_status (check.WrongPoint line) = 5
 check_status (check.Missing point) = 5
 check_status (check.NotHit point) = 5
+check_status (check.Ladder point fault) = 5
 check_status check.Memory = 7
 
 abbrev pub refusal_status : Refusal → ℕ

@@ -1,14 +1,18 @@
 // The message of a run that does not do what its words say. It is put in pieces from what is kept, so it takes no memory.
+ghost use Rattle.std.specs.Prelude.{◌≡◌};
 ghost use Rattle.unr_io.specs.Sink.{Puts};
 ghost use Rattle.unr_engine.specs.Ends.{why_of};
-ghost use Rattle.unr_engine.specs.Messages.{memory_message, text_message, parse_message, cert_message, source_message, check_message, refusal_message, why_message};
+ghost use Rattle.unr_engine.specs.Messages.{memory_message, text_message, parse_message, cert_message, source_message, line_name, line_number, step_message, hit_message, ladder_message, check_message, refusal_message, why_message};
 
 use crate::pieces::{Piece, put_all};
 use crate::stop::{Refusal, Stop};
 use cert_text::CertError;
+use ladder_check::{LadderFault, Query, QueryFault};
+use lrat_check::LineFault;
 use source_check::{CheckError, SourceError};
 use unr_io::{Sink, SinkError};
 use vlog_items::{ParseError, TextError};
+use word_core::Name;
 
 fn say_memory<E: Sink>(err: &mut E) -> Result<(), SinkError>
     ensures { Puts memory_message result (E.state err.old) (E.state err.new) }
@@ -94,7 +98,137 @@ fn say_source_error<E: Sink>(err: &mut E, error: &SourceError) -> Result<(), Sin
                 Piece::Text(b" NotBuilt\n"),
             ],
         ),
+        SourceError::CostOver { cost } => put_all(
+            err,
+            &[
+                Piece::Text(b"unr: source CostOver "),
+                Piece::Number(*cost),
+                Piece::Text(b"\n"),
+            ],
+        ),
         SourceError::Memory => say_memory(err),
+    }
+}
+
+/// What is wrong with a line of a proof.
+fn line_name(fault: &LineFault) -> &'static [u8]
+    ensures { result.now ≡ line_name fault.now }
+{
+    match fault {
+        LineFault::OldId { .. } => b" OldId ",
+        LineFault::BadVar { .. } => b" BadVar ",
+        LineFault::NoHint { .. } => b" NoHint ",
+        LineFault::NotUnit { .. } => b" NotUnit ",
+        LineFault::NotClosed { .. } => b" NotClosed ",
+    }
+}
+
+/// The number that it is about.
+fn line_number(fault: &LineFault) -> u64
+    ensures { result ≡ line_number fault.now }
+{
+    match fault {
+        LineFault::OldId { id } => *id,
+        LineFault::BadVar { id } => *id,
+        LineFault::NoHint { id } => *id,
+        LineFault::NotUnit { id } => *id,
+        LineFault::NotClosed { id } => *id,
+    }
+}
+
+/// Says that the proof of a lemma fails.
+fn say_step_fault<E: Sink>(
+    err: &mut E,
+    point: &Name,
+    lemma: u64,
+    fault: &QueryFault,
+) -> Result<(), SinkError>
+    ensures { Puts (step_message point.now lemma fault.now) result (E.state err.old) (E.state err.new) }
+{
+    match fault {
+        QueryFault::Line(fault) => put_all(
+            err,
+            &[
+                Piece::Text(b"unr: claim "),
+                Piece::Text(point.bytes()),
+                Piece::Text(b" Ladder step "),
+                Piece::Number(lemma),
+                Piece::Text(line_name(fault)),
+                Piece::Number(line_number(fault)),
+                Piece::Text(b"\n"),
+            ],
+        ),
+        QueryFault::NoEnd => put_all(
+            err,
+            &[
+                Piece::Text(b"unr: claim "),
+                Piece::Text(point.bytes()),
+                Piece::Text(b" Ladder step "),
+                Piece::Number(lemma),
+                Piece::Text(b" NoEnd\n"),
+            ],
+        ),
+    }
+}
+
+/// Says that the proof that a point isn't hit fails.
+fn say_hit_fault<E: Sink>(err: &mut E, point: &Name, fault: &QueryFault) -> Result<(), SinkError>
+    ensures { Puts (hit_message point.now fault.now) result (E.state err.old) (E.state err.new) }
+{
+    match fault {
+        QueryFault::Line(fault) => put_all(
+            err,
+            &[
+                Piece::Text(b"unr: claim "),
+                Piece::Text(point.bytes()),
+                Piece::Text(b" Ladder hit"),
+                Piece::Text(line_name(fault)),
+                Piece::Number(line_number(fault)),
+                Piece::Text(b"\n"),
+            ],
+        ),
+        QueryFault::NoEnd => put_all(
+            err,
+            &[
+                Piece::Text(b"unr: claim "),
+                Piece::Text(point.bytes()),
+                Piece::Text(b" Ladder hit NoEnd\n"),
+            ],
+        ),
+    }
+}
+
+fn say_ladder_fault<E: Sink>(
+    err: &mut E,
+    point: &Name,
+    fault: &LadderFault,
+) -> Result<(), SinkError>
+    ensures { Puts (ladder_message point.now fault.now) result (E.state err.old) (E.state err.new) }
+{
+    match fault {
+        LadderFault::Shape => put_all(
+            err,
+            &[
+                Piece::Text(b"unr: claim "),
+                Piece::Text(point.bytes()),
+                Piece::Text(b" Ladder Shape\n"),
+            ],
+        ),
+        LadderFault::StartFails { lemma } => put_all(
+            err,
+            &[
+                Piece::Text(b"unr: claim "),
+                Piece::Text(point.bytes()),
+                Piece::Text(b" Ladder StartFails "),
+                Piece::Number(*lemma),
+                Piece::Text(b"\n"),
+            ],
+        ),
+        LadderFault::Line { query, fault } => match query {
+            Query::Step(lemma) => say_step_fault(err, point, *lemma, fault),
+            Query::Hit => say_hit_fault(err, point, fault),
+        },
+        LadderFault::Memory => say_memory(err),
     }
 }
 
@@ -128,6 +262,7 @@ fn say_check_error<E: Sink>(err: &mut E, error: &CheckError) -> Result<(), SinkE
                 Piece::Text(b" NotHit\n"),
             ],
         ),
+        CheckError::Ladder { point, fault } => say_ladder_fault(err, point, fault),
         CheckError::Memory => say_memory(err),
     }
 }

@@ -102,6 +102,7 @@ fn source_status(error: &SourceError) -> u8
     match error {
         SourceError::Text(error) => text_status(error),
         SourceError::NotBuilt { .. } => 4,
+        SourceError::CostOver { .. } => 4,
         SourceError::Memory => 7,
     }
 }
@@ -115,6 +116,7 @@ fn check_status(error: &CheckError) -> u8
         CheckError::WrongPoint { .. } => 5,
         CheckError::Missing { .. } => 5,
         CheckError::NotHit { .. } => 5,
+        CheckError::Ladder { .. } => 5,
         CheckError::Memory => 7,
     }
 }

@@ -28,6 +28,66 @@ const LOGIC_REPORT: &[u8] =
 const STARTS: &[u8] =
     b"module t(input clk, input a, output reg q = 1'b0); always @(posedge clk) q <= a; endmodule";
 
+// A condition that is never true.
+const NEVER: &[u8] = b"module t(input clk, input a, output reg q); \
+    always @(posedge clk) if (q & ~q) q <= 1'b1; else q <= a; endmodule";
+
+const NEVER_CERT: &str = "unr 1|top t|clock clk|cycles 0|points s|claims 2|\
+    S t #1|excluded 0|hit 1 0|3 0 1 2 0|end|S t #2|reached 0|start 0|in 0|end|";
+
+// Two registers that are always alike.
+const ALIKE: &[u8] =
+    b"module u(input clk, input a, output reg q = 1'b0, output reg r = 1'b0, output reg e); \
+    always @(posedge clk) begin q <= a; r <= a; if (q & ~r) e <= 1'b1; end endmodule";
+
+const ALIKE_CERT: &str = "unr 1|top u|clock clk|cycles 0|points s|claims 3|\
+    S u #1|reached 0|start 000|in 0|end|S u #2|reached 0|start 000|in 0|end|\
+    S u #3|excluded 1|l all -u.q u.r|step 1 1 0|5 0 3 4 0|hit 1 0|7 0 6 2 3 5 0|end|";
+
+// The same, where nothing is known of the third point but that the start doesn't hit it.
+const OPEN_CERT: &str = "unr 1|top u|clock clk|cycles 0|points s|claims 3|\
+    S u #1|reached 0|start 000|in 0|end|S u #2|reached 0|start 000|in 0|end|\
+    S u #3|open 1 0|hit 1 0|8 0 7 3 5 0|end|";
+
+// Lines of the certificate before it, from 1, others in their place, and the message.
+const CHANGES: [(usize, usize, &str, &str); 15] = [
+    (23, 23, "7 0 6 2 3 0", "claim S u #3 Ladder hit NotClosed 7"),
+    (23, 23, "7 0 2 6 3 5 0", "claim S u #3 Ladder hit NotUnit 2"),
+    (21, 21, "5 0 3 9 0", "claim S u #3 Ladder step 1 NoHint 9"),
+    (23, 23, "7 0 6 2 3 -5 0", "cert line 23"),
+    (19, 19, "l all u.r", "claim S u #3 Ladder StartFails 1"),
+    (19, 19, "l all -u.z u.r", "claim S u #3 Ladder Shape"),
+    (18, 18, "excluded 2", "cert line 20"),
+    (22, 22, "hit 2 0", "cert line 24"),
+    (22, 22, "hit 1 1", "cert line 23"),
+    (21, 21, "4 0 3 4 0", "claim S u #3 Ladder step 1 OldId 4"),
+    (
+        20,
+        21,
+        "step 1 1 1|5 9 0 3 4 0",
+        "claim S u #3 Ladder step 1 BadVar 5",
+    ),
+    (
+        20,
+        21,
+        "step 1 1 1|5 8 0 3 4 0",
+        "claim S u #3 Ladder step 1 NoEnd",
+    ),
+    (
+        6,
+        6,
+        "claims 4|S u #1|reached 0|start 000|in 0|end",
+        "cert point line 12",
+    ),
+    (23, 24, "7 0 6", "cert line 23"),
+    (
+        17,
+        24,
+        "S u #3|open 2 0|hit 1 0|6 0 5 2 3 0|end",
+        "claim S u #3 Ladder hit NotClosed 6",
+    ),
+];
+
 // A run, and what it is to give. In `cert` a bar stands for a line feed. Of `fails` the first is the call of the desk that fails, then that of the output and of the error output, or 0.
 #[derive(Clone, Copy)]
 struct Case<'a> {
@@ -55,14 +115,26 @@ fn lines(alloc: Global, cert: &str) -> Result<Vec<u8>, AllocError> {
     Ok(bytes)
 }
 
-// The certificate with another text as its line of that number, from 0.
-fn with_bad_line(alloc: Global, number: usize) -> Result<String, AllocError> {
-    let mut cert = String::new(alloc);
-    for (at, line) in CERT.split('|').enumerate() {
-        cert.push_str(if at == number { "x" } else { line })?;
-        cert.push_str("|")?;
+// The certificate with other lines in the place of those from `first` to `last`, counted from 1.
+fn changed(
+    alloc: Global,
+    cert: &str,
+    first: usize,
+    last: usize,
+    lines: &str,
+) -> Result<String, AllocError> {
+    let mut text = String::new(alloc);
+    for (at, line) in cert.split_terminator('|').enumerate() {
+        if at + 1 == first {
+            text.push_str(lines)?;
+            text.push_str("|")?;
+        }
+        if at + 1 < first || last < at + 1 {
+            text.push_str(line)?;
+            text.push_str("|")?;
+        }
     }
-    Ok(cert)
+    Ok(text)
 }
 
 fn words_of(alloc: Global, words: &str) -> Result<Vec<String>, AllocError> {
@@ -124,6 +196,17 @@ fn runs(rt: HostRuntime) -> Result<(), TestFail> {
             text: LOGIC,
             out: LOGIC_REPORT,
             ..case_of(check, LOGIC_CERT, none, 0, "", 2)
+        },
+        Case {
+            text: NEVER,
+            out: b"excluded S t #1\nreached 0 S t #2\npoints 2 excluded 1 reached 1 open 0\n",
+            ..case_of(check, NEVER_CERT, none, 0, "", 2)
+        },
+        Case {
+            text: ALIKE,
+            out: b"reached 0 S u #1\nreached 0 S u #2\nopen 1 S u #3\n\
+                points 3 excluded 0 reached 2 open 1\n",
+            ..case_of(check, OPEN_CERT, none, 0, "", 2)
         },
         case_of("", CERT, none, 2, "unr: words\n", 0),
         case_of("check t.v", CERT, none, 2, "unr: words\n", 0),
@@ -214,9 +297,9 @@ fn runs(rt: HostRuntime) -> Result<(), TestFail> {
 
 #[test]
 fn bad_lines(rt: HostRuntime) -> Result<(), TestFail> {
-    for number in 0..11 {
-        let cert = with_bad_line(rt.alloc(), number)?;
-        let err = format!(in rt.alloc(); "unr: cert line {}\n", number + 1)?;
+    for number in 1..12 {
+        let cert = changed(rt.alloc(), CERT, number, number, "x")?;
+        let err = format!(in rt.alloc(); "unr: cert line {number}\n")?;
         let case = case_of(
             "check t.v t.cert",
             cert.as_str(),
@@ -225,6 +308,27 @@ fn bad_lines(rt: HostRuntime) -> Result<(), TestFail> {
             err.as_str(),
             2,
         );
+        try_case(&rt, rt.alloc(), &case)?;
+    }
+    Ok(())
+}
+
+#[test]
+fn changed_ladders(rt: HostRuntime) -> Result<(), TestFail> {
+    for (first, last, lines, message) in CHANGES {
+        let cert = changed(rt.alloc(), ALIKE_CERT, first, last, lines)?;
+        let err = format!(in rt.alloc(); "unr: {message}\n")?;
+        let case = Case {
+            text: ALIKE,
+            ..case_of(
+                "check t.v t.cert",
+                cert.as_str(),
+                [0, 0, 0],
+                5,
+                err.as_str(),
+                2,
+            )
+        };
         try_case(&rt, rt.alloc(), &case)?;
     }
     Ok(())

@@ -88,7 +88,7 @@ mod tests {
     use vlog_tree::{Item, Stmt};
 
     /// Texts, each with the place and the name of what was expected, or with no place where it has a tree.
-    const TEXTS: [(&str, u32, u32, &str); 19] = [
+    const TEXTS: [(&str, u32, u32, &str); 20] = [
         (
             "module t(input c, output reg q); always @(posedge c) q <= c; endmodule",
             0,
@@ -98,6 +98,12 @@ mod tests {
         ("module\tm\n( input a\r\n)\x0c;endmodule ", 0, 0, ""),
         ("", 1, 1, "module"),
         ("module reg(input a); endmodule", 1, 8, "name"),
+        (
+            "module t(input a, output reg q); always @(posedge a) q <= a ^~ a; endmodule",
+            1,
+            61,
+            ";",
+        ),
         ("module t(input a input b); endmodule", 1, 18, ")"),
         ("module t(output q); endmodule", 1, 17, "reg"),
         ("module t(input a,); endmodule", 1, 18, "port"),

@@ -6,7 +6,7 @@ use Rattle.std.proofs.lemmas.Bool.{eqb-true}
 use Rattle.word_core.specs.declared.place.Place.{Place}
 use Rattle.vlog_lex.specs.Bytes.{is_blank, begins_name, goes_on, is_number}
 use Rattle.vlog_lex.specs.Places.{step, past}
-use Rattle.vlog_lex.specs.Tokens.{is_sign, is_token, IsLongest, mark_length, token_length}
+use Rattle.vlog_lex.specs.Tokens.{is_sign, is_token, IsLongest, is_long_mark, mark_length, token_length}
 use Rattle.vlog_lex.proofs.Numbers.{differ, split_or, same_bytes, number_is}
 
 pub split_and : (a b : Bool) → (a && b) ≡ true → (a ≡ true) × (b ≡ true)
@@ -39,22 +39,38 @@ last_on (k ∷ ks) m ms e = last_on ks m ms (split_and (goes_on k) (list_all goe
 abbrev pub begins_word : ℕ → Bool
 begins_word b = begins_name b || b == 36
 
-mark_first : (b : ℕ) (bs : List ℕ) → bytes_eq (b ∷ bs) (codes "<=") ≡ true → b ≡ 60
-mark_first b bs e = let same : b ∷ bs ≡ 60 ∷ 61 ∷ [] = same_bytes (b ∷ bs) (codes "<=") e in cc
+-- the text is a mark of two bytes
+abbrev IsLongMark : List ℕ → Type 0
+IsLongMark text = (text ≡ codes "<=") ⊎ (text ≡ codes "^~")
+
+-- a sign is a mark of two bytes or a number
+sign_is : (text : List ℕ) → is_sign text ≡ true → IsLongMark text ⊎ (is_number text ≡ true)
+sign_is text e = elim (split_or (bytes_eq text (codes "<=") || bytes_eq text (codes "^~")) (is_number text) e) [
+  | inl h ↦ elim (split_or (bytes_eq text (codes "<=")) (bytes_eq text (codes "^~")) h) [
+    | inl k ↦ inl (inl (same_bytes text (codes "<=") k))
+    | inr k ↦ inl (inr (same_bytes text (codes "^~") k))
+  ]
+  | inr h ↦ inr h
+]
 
 number_first : (b : ℕ) (bs : List ℕ) → is_number (b ∷ bs) ≡ true → b ≡ 49
 number_first b bs e = elim (number_is (b ∷ bs) e) [ inl h ↦ cc | inr h ↦ cc ]
 
--- a mark or a number begins with `<` or `1`
-pub sign_first : (b : ℕ) (bs : List ℕ) → is_sign (b ∷ bs) ≡ true → (b ≡ 60) ⊎ (b ≡ 49)
-sign_first b bs e = elim (split_or (bytes_eq (b ∷ bs) (codes "<=")) (is_number (b ∷ bs)) e) [
-  | inl h ↦ inl (mark_first b bs h)
-  | inr h ↦ inr (number_first b bs h)
-]
+-- a mark of two bytes, or a number, begins with `<`, `^` or `1`
+abbrev BeginsSign : ℕ → Type 0
+BeginsSign b = (b ≡ 60) ⊎ ((b ≡ 94) ⊎ (b ≡ 49))
 
-no_word : (b : ℕ) → (b ≡ 60) ⊎ (b ≡ 49) → begins_word b ≡ false
+mark_first : (b : ℕ) (bs : List ℕ) → IsLongMark (b ∷ bs) → BeginsSign b
+mark_first b bs (inl h) = let same : b ∷ bs ≡ 60 ∷ 61 ∷ [] = h in let first : b ≡ 60 = cc in inl first
+mark_first b bs (inr h) = let same : b ∷ bs ≡ 94 ∷ 126 ∷ [] = h in let first : b ≡ 94 = cc in inr (inl first)
+
+pub sign_first : (b : ℕ) (bs : List ℕ) → is_sign (b ∷ bs) ≡ true → BeginsSign b
+sign_first b bs e = elim (sign_is (b ∷ bs) e) [ inl h ↦ mark_first b bs h | inr h ↦ inr (inr (number_first b bs h)) ]
+
+no_word : (b : ℕ) → BeginsSign b → begins_word b ≡ false
 no_word b (inl e) = subst (λ z. begins_word z ≡ false) (sym e) refl
-no_word b (inr e) = subst (λ z. begins_word z ≡ false) (sym e) refl
+no_word b (inr (inl e)) = subst (λ z. begins_word z ≡ false) (sym e) refl
+no_word b (inr (inr e)) = subst (λ z. begins_word z ≡ false) (sym e) refl
 
 word_token : (b : ℕ) (ks : List ℕ) → begins_word b ≡ true → not (is_blank b) ≡ true → list_all goes_on ks ≡ true → is_token (b ∷ ks) ≡ true
 word_token b [] w solid on = solid
@@ -80,14 +96,11 @@ name_longest b bs w solid = record {
     ends [] behind e t = refl
     ends (m ∷ ms) behind e t = absurd (differ (goes_on m) (word_goes_on b (take (prefix_len goes_on bs) bs) m ms w t) (stops goes_on bs m (ms ++ behind) e))
 
--- a token of two bytes or more that begins no name is `<=` or a number
-long_sign : (b c : ℕ) (cs : List ℕ) → begins_word b ≡ false → is_token (b ∷ c ∷ cs) ≡ true → (b ∷ c ∷ cs ≡ codes "<=") ⊎ (is_number (b ∷ c ∷ cs) ≡ true)
+-- a token of two bytes or more that begins no name is a mark or a number
+long_sign : (b c : ℕ) (cs : List ℕ) → begins_word b ≡ false → is_token (b ∷ c ∷ cs) ≡ true → IsLongMark (b ∷ c ∷ cs) ⊎ (is_number (b ∷ c ∷ cs) ≡ true)
 long_sign b c cs w t = elim (split_or (begins_word b && list_all goes_on (c ∷ cs)) (is_sign (b ∷ c ∷ cs)) t) [
   | inl h ↦ absurd (differ (begins_word b) (split_and (begins_word b) (list_all goes_on (c ∷ cs)) h).0 w)
-  | inr h ↦ elim (split_or (bytes_eq (b ∷ c ∷ cs) (codes "<=")) (is_number (b ∷ c ∷ cs)) h) [
-    | inl k ↦ inl (same_bytes (b ∷ c ∷ cs) (codes "<=") k)
-    | inr k ↦ inr k
-  ]
+  | inr h ↦ sign_is (b ∷ c ∷ cs) h
 ]
 
 -- nothing longer than a number that begins with one is a token
@@ -98,8 +111,9 @@ number_ends taken (m ∷ ms) e t = elim (number_is taken e) [
   | inr h ↦ absurd (longer 49 (long_sign 49 39 (98 ∷ 49 ∷ m ∷ ms) refl (subst (λ z. is_token (z ++ m ∷ ms) ≡ true) h t)))
 ]
   where
-    longer : (d : ℕ) → (49 ∷ 39 ∷ 98 ∷ d ∷ m ∷ ms ≡ codes "<=") ⊎ (is_number (49 ∷ 39 ∷ 98 ∷ d ∷ m ∷ ms) ≡ true) → ⊥
-    longer d (inl h) = let no : 49 ∷ 39 ∷ 98 ∷ d ∷ m ∷ ms ≡ 60 ∷ 61 ∷ [] = h in cc
+    longer : (d : ℕ) → IsLongMark (49 ∷ 39 ∷ 98 ∷ d ∷ m ∷ ms) ⊎ (is_number (49 ∷ 39 ∷ 98 ∷ d ∷ m ∷ ms) ≡ true) → ⊥
+    longer d (inl (inl h)) = let no : 49 ∷ 39 ∷ 98 ∷ d ∷ m ∷ ms ≡ 60 ∷ 61 ∷ [] = h in cc
+    longer d (inl (inr h)) = let no : 49 ∷ 39 ∷ 98 ∷ d ∷ m ∷ ms ≡ 94 ∷ 126 ∷ [] = h in cc
     longer d (inr h) = elim (number_is (49 ∷ 39 ∷ 98 ∷ d ∷ m ∷ ms) h) [ inl k ↦ cc | inr k ↦ cc ]
 
 number_longest : (bs : List ℕ) → is_number (take 4 bs) ≡ true → IsLongest (take 4 bs) (drop 4 bs)
@@ -117,19 +131,27 @@ mark_longest b [] w n solid = record { token = solid; longest = ends }
     ends : (more behind : List ℕ) → [] ≡ more ++ behind → is_token ((b ∷ []) ++ more) ≡ true → more ≡ []
     ends [] behind e t = refl
     ends (m ∷ ms) behind e t = cc
-mark_longest b (c ∷ cs) w n solid = (elim (b == 60 && c == 61) as (λ v. (b == 60 && c == 61) ≡ v → IsLongest (take (cond v 2 1) (b ∷ c ∷ cs)) (drop (cond v 2 1) (b ∷ c ∷ cs))) [
-  | true ↦ λ h. record { token = is_two (split_and (b == 60) (c == 61) h).0 (split_and (b == 60) (c == 61) h).1; longest = two_ends (split_and (b == 60) (c == 61) h).0 }
+mark_longest b (c ∷ cs) w n solid = (elim (is_long_mark b c) as (λ v. is_long_mark b c ≡ v → IsLongest (take (cond v 2 1) (b ∷ c ∷ cs)) (drop (cond v 2 1) (b ∷ c ∷ cs))) [
+  | true ↦ λ h. record { token = is_two h; longest = two_ends h }
   | false ↦ λ h. record { token = solid; longest = one_ends h }
 ]) refl
   where
-    is_two : (b == 60) ≡ true → (c == 61) ≡ true → is_token (b ∷ c ∷ []) ≡ true
-    is_two p q = subst (λ z. is_token (z ∷ c ∷ []) ≡ true) (sym (eqb-true b 60 p)) (subst (λ z. is_token (60 ∷ z ∷ []) ≡ true) (sym (eqb-true c 61 q)) refl)
+    pair : (x y : ℕ) → (b == x && c == y) ≡ true → is_token (x ∷ y ∷ []) ≡ true → is_token (b ∷ c ∷ []) ≡ true
+    pair x y h t =
+        let p = split_and (b == x) (c == y) h in
+        subst (λ z. is_token (z ∷ c ∷ []) ≡ true) (sym (eqb-true b x p.0)) (subst (λ z. is_token (x ∷ z ∷ []) ≡ true) (sym (eqb-true c y p.1)) t)
 
-    two_ends : (b == 60) ≡ true → (more behind : List ℕ) → cs ≡ more ++ behind → is_token ((b ∷ c ∷ []) ++ more) ≡ true → more ≡ []
+    is_two : is_long_mark b c ≡ true → is_token (b ∷ c ∷ []) ≡ true
+    is_two h = elim (split_or (b == 60 && c == 61) (b == 94 && c == 126) h) [ inl k ↦ pair 60 61 k refl | inr k ↦ pair 94 126 k refl ]
+
+    two_ends : is_long_mark b c ≡ true → (more behind : List ℕ) → cs ≡ more ++ behind → is_token ((b ∷ c ∷ []) ++ more) ≡ true → more ≡ []
     two_ends p [] behind e t = refl
     two_ends p (m ∷ ms) behind e t = elim (long_sign b c (m ∷ ms) w t) [
-      | inl h ↦ (let no : b ∷ c ∷ m ∷ ms ≡ 60 ∷ 61 ∷ [] = h in cc)
-      | inr h ↦ absurd (differ (b == 60) p (subst (λ z. (z == 60) ≡ false) (sym (number_first b (c ∷ m ∷ ms) h)) refl))
+      | inl h ↦ elim h [
+        | inl k ↦ (let no : b ∷ c ∷ m ∷ ms ≡ 60 ∷ 61 ∷ [] = k in cc)
+        | inr k ↦ (let no : b ∷ c ∷ m ∷ ms ≡ 94 ∷ 126 ∷ [] = k in cc)
+      ]
+      | inr h ↦ absurd (differ (is_long_mark b c) p (subst (λ z. is_long_mark z c ≡ false) (sym (number_first b (c ∷ m ∷ ms) h)) refl))
     ]
 
     -- a number that begins here would be seen in the first four bytes
@@ -139,14 +161,23 @@ mark_longest b (c ∷ cs) w n solid = (elim (b == 60 && c == 61) as (λ v. (b ==
       | inr h ↦ subst (λ z. is_number (take 4 z) ≡ true) (sym (ap (λ (z : List ℕ). b ∷ z) e ∙ ap (λ (z : List ℕ). z ++ behind) h)) refl
     ]
 
-    one_ends : (b == 60 && c == 61) ≡ false → (more behind : List ℕ) → c ∷ cs ≡ more ++ behind → is_token ((b ∷ []) ++ more) ≡ true → more ≡ []
+    -- a mark of two bytes that begins here would be seen in the first two
+    marked : (m : ℕ) (ms behind : List ℕ) → c ∷ cs ≡ (m ∷ ms) ++ behind → IsLongMark (b ∷ m ∷ ms) → is_long_mark b c ≡ true
+    marked m ms behind e (inl k) =
+        let both : b ∷ m ∷ ms ≡ 60 ∷ 61 ∷ [] = k in
+        let first : b ≡ 60 = cc in
+        let second : c ≡ 61 = cc in
+        subst (λ z. is_long_mark z c ≡ true) (sym first) (subst (λ z. is_long_mark 60 z ≡ true) (sym second) refl)
+    marked m ms behind e (inr k) =
+        let both : b ∷ m ∷ ms ≡ 94 ∷ 126 ∷ [] = k in
+        let first : b ≡ 94 = cc in
+        let second : c ≡ 126 = cc in
+        subst (λ z. is_long_mark z c ≡ true) (sym first) (subst (λ z. is_long_mark 94 z ≡ true) (sym second) refl)
+
+    one_ends : is_long_mark b c ≡ false → (more behind : List ℕ) → c ∷ cs ≡ more ++ behind → is_token ((b ∷ []) ++ more) ≡ true → more ≡ []
     one_ends h [] behind e t = refl
     one_ends h (m ∷ ms) behind e t = elim (long_sign b m ms w t) [
-      | inl k ↦ (
-          let both : b ∷ m ∷ ms ≡ 60 ∷ 61 ∷ [] = k in
-          let first : b ≡ 60 = cc in
-          let second : c ≡ 61 = cc in
-          absurd (differ (b == 60 && c == 61) (subst (λ z. (z == 60 && c == 61) ≡ true) (sym first) (subst (λ z. (60 == 60 && z == 61) ≡ true) (sym second) refl)) h))
+      | inl k ↦ absurd (differ (is_long_mark b c) (marked m ms behind e k) h)
       | inr k ↦ absurd (differ (is_number (take 4 (b ∷ c ∷ cs))) (seen (m ∷ ms) behind e k) n)
     ]
 

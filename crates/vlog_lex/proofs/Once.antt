@@ -41,7 +41,10 @@ solid b [] t = from_not (is_blank b) t
     from_not false e = refl
 solid b (c ∷ cs) t = elim (split_or (begins_word b && list_all goes_on (c ∷ cs)) (is_sign (b ∷ c ∷ cs)) t) [
   | inl h ↦ solid_word b (split_and (begins_word b) (list_all goes_on (c ∷ cs)) h).0
-  | inr h ↦ elim (sign_first b (c ∷ cs) h) [ inl e ↦ subst (λ z. is_blank z ≡ false) (sym e) refl | inr e ↦ subst (λ z. is_blank z ≡ false) (sym e) refl ]
+  | inr h ↦ elim (sign_first b (c ∷ cs) h) [
+    | inl e ↦ subst (λ z. is_blank z ≡ false) (sym e) refl
+    | inr more ↦ elim more [ inl e ↦ subst (λ z. is_blank z ≡ false) (sym e) refl | inr e ↦ subst (λ z. is_blank z ≡ false) (sym e) refl ]
+  ]
 ]
 
 -- ---- two ways to cut a list

@@ -11,11 +11,12 @@ pub record Token : Type 0 where
   pub text : List ℕ
   pub at : Place
 
--- a mark of more bytes than one, or a number
+-- A mark of more bytes than one, or a number. Of the marks that no rule uses, `^~` is one by itself here, since its bytes could be read as two
+-- operators that rules do use; the texts that have another one are refused at one of its bytes.
 abbrev pub is_sign : List ℕ → Bool
-is_sign text = bytes_eq text (codes "<=") || is_number text
+is_sign text = bytes_eq text (codes "<=") || bytes_eq text (codes "^~") || is_number text
 
--- Whether the bytes can be a token: one byte that is no blank; a letter, `_` or `$` with further letters, digits, `_` and `$`; `<=`; or a number.
+-- Whether the bytes can be a token: one byte that is no blank; a letter, `_` or `$` with further letters, digits, `_` and `$`; `<=`; `^~`; or a number.
 abbrev pub is_token : List ℕ → Bool
 is_token [] = false
 is_token (b ∷ []) = not (is_blank b)
@@ -34,9 +35,12 @@ pub data Divides : Place → List ℕ → List Token → Type 0 where
 
 -- ---- how the longest token is found
 
+abbrev pub is_long_mark : ℕ → ℕ → Bool
+is_long_mark b c = (b == 60 && c == 61) || (b == 94 && c == 126)
+
 abbrev pub mark_length : ℕ → List ℕ → ℕ
 mark_length b [] = 1
-mark_length b (c ∷ cs) = if b == 60 && c == 61 then 2 else 1
+mark_length b (c ∷ cs) = if is_long_mark b c then 2 else 1
 
 abbrev pub token_length : List ℕ → ℕ
 token_length [] = 0

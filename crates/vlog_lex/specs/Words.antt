@@ -5,7 +5,7 @@ use Rattle.vlog_lex.specs.declared.word.Word.{Word}
 use Rattle.vlog_lex.specs.declared.word.Word.TheVariants as w
 use Rattle.vlog_lex.specs.Bytes.{begins_name, is_number}
 
--- The keywords and marks (IEEE 1364-2001 clause 2.3 and annex B), and what each of them is to the grammar. Those that no rule uses are names neither.
+-- The keywords and marks (IEEE 1364-2001 clauses 2.4 and 2.7 and annex B), and what each of them is to the grammar. Those that no rule uses are names neither.
 unfoldable pub spellings : List (List ℕ × Word)
 spellings =
     (codes "module", w.Module) ∷

@@ -33,6 +33,16 @@ fn token_length(text: &[u8]) -> usize
     }
 }
 
+/// Whether two bytes are a mark: `<=`, or `^~`, which no rule has and which isn't `^` and `~`.
+fn is_long_mark(first: u8, second: u8) -> bool
+    ensures { result ≡ spec.is_long_mark first second }
+{
+    if first == b'<' {
+        return second == b'=';
+    }
+    first == b'^' && second == b'~'
+}
+
 /// The same where the text begins with this byte, which begins no name and no number.
 fn mark_length(first: u8, more: &[u8]) -> usize
     ensures value { result ≡ spec.mark_length first more.now }
@@ -40,7 +50,7 @@ fn mark_length(first: u8, more: &[u8]) -> usize
     ensures some { 0 < result }
 {
     match more {
-        [second, ..] if first == b'<' && *second == b'=' => 2,
+        [second, ..] if is_long_mark(first, *second) => 2,
         _ => 1,
     }
 }
@@ -75,9 +85,9 @@ mod tests {
     use std::test::Fail;
 
     /// The tokens of the text below: their bytes, what they are, and where they stand.
-    const TEXT: &[u8] = b"module a$1\n<=<\t$f 1'b01'";
+    const TEXT: &[u8] = b"module a$1\n<=<\t$f 1'b01'^~^";
 
-    const TOKENS: [(&[u8], Word, u32, u32); 8] = [
+    const TOKENS: [(&[u8], Word, u32, u32); 10] = [
         (b"module", Word::Module, 1, 1),
         (b"a$1", Word::Name, 1, 8),
         (b"<=", Word::AtMost, 2, 1),
@@ -86,6 +96,8 @@ mod tests {
         (b"1'b0", Word::Number, 2, 8),
         (b"1", Word::Other, 2, 12),
         (b"'", Word::Other, 2, 13),
+        (b"^~", Word::Other, 2, 14),
+        (b"^", Word::Caret, 2, 16),
     ];
 
     fn is(token: &Token<'_>, text: &[u8], word: Word, at: Place) -> bool {

@@ -53,4 +53,4 @@ pub returns : goal.returns
 returns g c =
     let command = Check_files c.args.file.now c.args.cert.now in
     delivered command (c.in_ok-text.text.items ∷ c.in_ok-spelling.spelling.items ∷ []) c.deref-3.result.now c.deliver.result (g.D.Desk.state c.args.desk.now) (g.D.Desk.state c.fetch-2.new.desk) (g.O.Sink.state c.args.out.now) (g.O.Sink.state c.deliver.new.out) (both_loaded c.args.file.now c.args.cert.now c.in_ok-text.text c.in_ok-spelling.spelling (g.D.Desk.state c.args.desk.now) (g.D.Desk.state c.fetch.new.desk) (g.D.Desk.state c.fetch-2.new.desk) c.in_ok-text.ensures c.in_ok-spelling.ensures)
-    (answered c.args.file.now c.args.cert.now c.in_ok-text.text.items c.deref.result.now c.in_ok-spelling.spelling.items c.deref-2.result.now c.in_ok-tree.tree c.in_ok-certificate.certificate c.in_ok-claims.claims c.as_slice.result.now c.deref-3.result.now c.deref.ensures.value c.deref-2.ensures.value c.in_ok-tree.ensures c.in_ok-certificate.ensures.answers c.in_ok-claims.ensures.judged c.as_slice.ensures (c.deref-3.ensures.value ∙ c.in_ok-report.ensures)) c.deliver.ensures
+    (answered c.args.file.now c.args.cert.now c.in_ok-text.text.items c.deref.result.now c.in_ok-spelling.spelling.items c.deref-2.result.now c.in_ok-tree.tree c.in_ok-certificate.certificate c.in_ok-claims.claims c.as_slice.result.now c.deref-3.result.now c.deref.ensures.value c.deref-2.ensures.value c.in_ok-tree.ensures c.in_ok-certificate.ensures.answers c.in_ok-claims.ensures.judged c.in_ok-claims.ensures.true_claims c.as_slice.ensures (c.deref-3.ensures.value ∙ c.in_ok-report.ensures)) c.deliver.ensures

@@ -1,0 +1,16 @@
+-- The bits that bodies assign.
+use Rattle.std.specs.Prelude.{ℕ, List, [], ◌++◌}
+use Rattle.design_core.specs.declared.flat.Stmt.{Stmt, Row_of-Stmt, end_of-Stmt, more_of-Stmt}
+use Rattle.design_core.specs.declared.flat.Stmt.TheVariants.{Assign, Branch', Block'}
+use Rattle.design_core.specs.Exec.{target_bits}
+
+abbrev mutual
+  -- the bits of its targets, in the order in which they are written
+  pub targets_of : Stmt → List ℕ
+  targets_of (Assign site delayed target value) = target_bits target
+  targets_of (Branch' site test p a q b) = all_targets a ++ all_targets b
+  targets_of (Block' shape all) = all_targets all
+
+  pub all_targets : {m : _} → Row_of-Stmt m → List ℕ
+  all_targets end_of-Stmt = []
+  all_targets (more_of-Stmt s rest) = targets_of s ++ all_targets rest

@@ -1,0 +1,87 @@
+// The bits that bodies assign, in order of number.
+
+ghost use Rattle.std.specs.Prelude.{◌≡◌, ℕ, ◌++◌, IfOk, OnOk};
+ghost use Rattle.std.specs.List.Sorted.{IsStrictlyIncreasing};
+ghost use Rattle.design_core.specs.Exec.{part_bits, target_bits};
+ghost use Rattle.design_core.specs.Drive.{among};
+ghost use Rattle.plain_blast.specs.Assigned.{targets_of};
+
+use aig_core::Memory;
+use design_core::flat::{Bit, Part, Stmt, Target};
+use std::alloc::Global;
+
+/// The bits of a part of a target.
+fn named(part: &Part) -> &[Bit]
+    ensures { result.now ≡ part_bits part.now }
+{
+    match part {
+        Part::Bits(bits) => bits.as_slice(),
+    }
+}
+
+/// Appends the bits of a target.
+pub fn push_target(target: &Target, bits: &mut Vec<Bit>) -> Result<(), Memory>
+    ensures { OnOk result (bits.new.items ≡ bits.old.items ++ target_bits target.now) }
+{
+    for part in target.parts.as_slice() {
+        bits.extend_from_slice(named(part))?;
+    }
+    Ok(())
+}
+
+/// Appends the bits that a body assigns.
+fn push_assigned(body: &Stmt, bits: &mut Vec<Bit>) -> Result<(), Memory>
+    ensures { OnOk result (bits.new.items ≡ bits.old.items ++ targets_of body.now) }
+{
+    match body {
+        Stmt::Assign { target, .. } => {
+            push_target(target, bits)?;
+            Ok(())
+        }
+        Stmt::Branch { yes, no, .. } => {
+            push_assigned(yes.get(), bits)?;
+            push_assigned(no.get(), bits)?;
+            Ok(())
+        }
+        Stmt::Block(all) => {
+            for s in all.as_slice() {
+                push_assigned(s, bits)?;
+            }
+            Ok(())
+        }
+    }
+}
+
+/// The bits in order of number, each once.
+fn ordered(bits: Vec<Bit>) -> Result<Vec<Bit>, Memory>
+    ensures rises { IfOk result (λ r. IsStrictlyIncreasing r.items) }
+    ensures same { IfOk result (λ r. (b : ℕ) → among r.items b ≡ among bits.items b) }
+{
+    let mut bits = bits;
+    bits.sort()?;
+    bits.dedup();
+    Ok(bits)
+}
+
+/// The bits that a body assigns. Takes time linear in the body, and in the logarithm of that.
+pub fn assigned_in(alloc: Global, body: &Stmt) -> Result<Vec<Bit>, Memory>
+    ensures rises { IfOk result (λ r. IsStrictlyIncreasing r.items) }
+    ensures same { IfOk result (λ r. (b : ℕ) → among r.items b ≡ among (targets_of body.now) b) }
+{
+    let mut bits = Vec::new(alloc);
+    push_assigned(body, &mut bits)?;
+    let bits = ordered(bits)?;
+    Ok(bits)
+}
+
+/// The bits that one of two arms assigns.
+pub fn assigned_in_arms(alloc: Global, yes: &Stmt, no: &Stmt) -> Result<Vec<Bit>, Memory>
+    ensures rises { IfOk result (λ r. IsStrictlyIncreasing r.items) }
+    ensures same { IfOk result (λ r. (b : ℕ) → among r.items b ≡ among (targets_of yes.now ++ targets_of no.now) b) }
+{
+    let mut bits = Vec::new(alloc);
+    push_assigned(yes, &mut bits)?;
+    push_assigned(no, &mut bits)?;
+    let bits = ordered(bits)?;
+    Ok(bits)
+}
