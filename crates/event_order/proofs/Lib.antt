@@ -1,0 +1,11 @@
+pub mod Bodies
+pub mod Updates
+pub mod Resets
+pub mod Drivers
+pub mod Waking
+pub mod Waiting
+pub mod Settling
+pub mod Clocking
+pub mod Settled
+pub mod Ending
+pub mod Main

@@ -1,0 +1,23 @@
+// Laws over every order of steps.
+
+ghost use Rattle.event_order.specs.Laws.{EveryOrderSettles, EveryCycleEnds, EveryVerdictAgrees, EveryStimulusRuns};
+
+/// Every run of the machine, in any order of steps, is a settled run, and every settled run is like one of the machine.
+pub fn law_every_order_settles()
+    ensures { EveryOrderSettles }
+{}
+
+/// From every state that has a flag for each process some steps lead to a quiet one.
+pub fn law_every_cycle_ends()
+    ensures { EveryCycleEnds }
+{}
+
+/// What is said of a point over settled runs is said of it over the machine's.
+pub fn law_every_verdict_agrees()
+    ensures { EveryVerdictAgrees }
+{}
+
+/// Each stimulus that fits has a run of the machine.
+pub fn law_every_stimulus_runs()
+    ensures { EveryStimulusRuns }
+{}

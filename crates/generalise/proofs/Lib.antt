@@ -1,0 +1,4 @@
+pub mod Lifted
+pub mod Marks
+pub mod Pass
+pub mod Smaller

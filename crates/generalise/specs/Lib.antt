@@ -1,0 +1,5 @@
+pub mod Cubes
+pub mod Effort
+pub mod Frames
+pub mod Lifting
+pub mod Parts

@@ -1,0 +1,12 @@
+use Rattle.std.proofs.Common.{◌≡◌}
+use Rattle.generalise.specs.Effort.{Uses}
+use Rattle.ic3_frames.specs.Rules.{IsKept}
+use Rattle.ic3_frames.proofs.search.raise_all.Given as goal
+
+abbrev pub invariant-loop-level : goal.invariant-loop-level
+invariant-loop-level l = record {
+  kept : IsKept l.system l.frames;
+  point : l.frames.point ≡ l.fn.frames.point;
+  depth : l.frames.depth ≡ l.fn.frames.depth;
+  uses : Uses l.fn.units l.units;
+}

@@ -1,0 +1,13 @@
+pub mod Found
+pub mod Framed
+pub mod Full
+pub mod Known
+pub mod Lifted
+pub mod Obligations
+pub mod Queries
+pub mod Raised
+pub mod Rules
+pub mod Searching
+pub mod Solving
+pub mod Turns
+pub mod Walks

@@ -1,0 +1,4 @@
+pub mod Claims
+pub mod Good
+pub mod Levels
+pub mod Proved
