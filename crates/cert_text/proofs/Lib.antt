@@ -10,3 +10,5 @@ pub mod ProofLoop
 pub mod LadderLaws
 pub mod Blocks
 pub mod Whole
+pub mod Writing
+pub mod Lined

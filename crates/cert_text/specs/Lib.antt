@@ -4,3 +4,4 @@ pub mod Tests
 pub mod Ladders
 pub mod Certs
 pub mod Answers
+pub mod Written

@@ -1,5 +1,0 @@
-use Rattle.cert_write.proofs.Lined.{read_is_written}
-use Rattle.cert_write.proofs.write.law_read_certs_are_written_back.Goals as goal
-
-pub returns : goal.returns
-returns c = read_is_written

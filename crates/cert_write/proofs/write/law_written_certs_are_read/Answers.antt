@@ -1,5 +1,0 @@
-use Rattle.cert_write.proofs.Lined.{written_is_read}
-use Rattle.cert_write.proofs.write.law_written_certs_are_read.Goals as goal
-
-pub returns : goal.returns
-returns c = written_is_read
