@@ -1,1 +1,6 @@
+pub mod Claims
+pub mod Laws
+pub mod Making
+pub mod Naming
+pub mod Numbers
 pub mod Proving

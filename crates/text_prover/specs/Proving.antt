@@ -16,8 +16,13 @@ use Rattle.text_prover.specs.declared.proving.Proven.{Proven}
 -- the settings under which a text is proved: these names, no prelude, and the points of statements
 abbrev pub setup_of : List ℕ → List ℕ → Setup
 setup_of top clock = record {
-  top = top; clock = clock; hold = []; cycles = 0;
-  kinds = record { s = true; b = false; r = false; t = false; f = false }; fsm = [] }
+  top = top;
+  clock = clock;
+  hold = [];
+  cycles = 0;
+  kinds = record { s = true; b = false; r = false; t = false; f = false };
+  fsm = [];
+}
 
 -- the units that are told of a claim: those that its search used, where it is left open
 abbrev pub units_of : ℕ → Verdict → ℕ

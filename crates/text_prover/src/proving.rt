@@ -1,11 +1,15 @@
 // A claim for each point of a text, with the certificate that shows them.
-ghost use Rattle.std.specs.Prelude.{◌≤◌, ◌^◌};
-ghost use Rattle.text_prover.specs.Proving.{ProveAnswers};
+ghost use Rattle.std.specs.Prelude.{◌≡◌, ◌≤◌, ◌^◌, IfOk};
+ghost use Rattle.text_prover.specs.Proving.{ProveAnswers, setup_of, IsProven};
+ghost use Rattle.text_prover.specs.Making.{IsMade};
 
+use crate::making::{Made, make};
 use cert_text::Claim;
-use source_check::SourceError;
+use design_core::setup::{Kinds, Setup};
+use source_check::{CheckError, SourceError, check};
 use sqlite_items::Items;
-use std::alloc::Global;
+use std::alloc::{AllocError, Global};
+use word_core::Name;
 
 /// What was proved of a text.
 #[derive(Drop)]
@@ -16,6 +20,58 @@ pub struct Proven {
     pub claims: Items<Claim>,
     /// For each claim that is open the units that its search used, for each other one 0.
     pub used: Items<u64>,
+}
+
+/// The settings under which a text is proved.
+fn setup(alloc: Global, top: &[u8], clock: &[u8]) -> Result<Setup, AllocError>
+    ensures { IfOk result (λ s. s ≡ setup_of top.now clock.now) }
+{
+    Ok(Setup {
+        top: Name::make(alloc, top)?,
+        clock: Name::make(alloc, clock)?,
+        hold: Items::new(alloc),
+        cycles: 0,
+        kinds: Kinds {
+            s: true,
+            b: false,
+            r: false,
+            t: false,
+            f: false,
+        },
+        fsm: Items::new(alloc),
+    })
+}
+
+/// The one error of checking a certificate that is accepted.
+fn want_of_memory(error: &CheckError) -> AllocError
+    requires { error.now ≡ CheckError.Memory }
+{
+    match error {
+        CheckError::Memory => AllocError,
+        _ => unreachable!(),
+    }
+}
+
+/// Checks the certificate that was made for a text. It is accepted, so want of memory is the only error.
+fn checked(
+    alloc: Global,
+    text: &[u8],
+    top: &[u8],
+    clock: &[u8],
+    effort: u64,
+    made: Made,
+) -> Result<Proven, AllocError>
+    requires { IsMade text.now top.now clock.now effort made.cert.items made.used }
+    ensures { IfOk result (IsProven text.now top.now clock.now effort) }
+{
+    match check(alloc, text, &made.cert) {
+        Ok(claims) => Ok(Proven {
+            cert: made.cert,
+            claims,
+            used: made.used,
+        }),
+        Err(error) => Err(want_of_memory(&error)),
+    }
 }
 
 /// Makes a claim for each statement point of the text's design under this top and this clock, and the certificate of all claims.
@@ -32,5 +88,8 @@ pub fn prove_text(
     requires most { effort ≤ 10 ^ 18 }
     ensures { ProveAnswers text.now top.now clock.now effort result }
 {
-    Err(SourceError::Memory)
+    let setup = setup(alloc, top, clock)?;
+    let made = make(alloc, text, setup, effort)?;
+    let proven = checked(alloc, text, top, clock, effort, made)?;
+    Ok(proven)
 }

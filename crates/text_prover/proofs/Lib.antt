@@ -1,0 +1,12 @@
+pub mod Accepting
+pub mod Again
+pub mod Certified
+pub mod Fitting
+pub mod Hitting
+pub mod Holding
+pub mod Loops
+pub mod Made
+pub mod OneAnswer
+pub mod PointNames
+pub mod StateNames
+pub mod TextNames
