@@ -12,16 +12,16 @@ use Rattle.design_core.proofs.Truth.{or_cases}
 use Rattle.design_core.proofs.Effects.{length-perform, written_other, written_both}
 use Rattle.design_core.proofs.Updates.{perform-append}
 
-written-cons : (b : ℕ) (bits : List ℕ) (word : List Bool) → written (b ∷ bits) word ≡ (b, bit_at word 0) ∷ written bits (drop 1 word)
+pub written-cons : (b : ℕ) (bits : List ℕ) (word : List Bool) → written (b ∷ bits) word ≡ (b, bit_at word 0) ∷ written bits (drop 1 word)
 written-cons b bits [] = refl
 written-cons b bits (x ∷ word) = refl
 
-drop-one : (k : ℕ) (word : List Bool) → drop 1 (drop k word) ≡ drop (k + 1) word
+pub drop-one : (k : ℕ) (word : List Bool) → drop 1 (drop k word) ≡ drop (k + 1) word
 drop-one zero word = refl
 drop-one (suc k) [] = sym (drop-nil (suc k + 1))
 drop-one (suc k) (x ∷ word) = let e : suc k + 1 ≡ suc (k + 1) = omega arith in drop-one k word ∙ ap (λ n. drop n (x ∷ word)) (sym e)
 
-head-drop : (k : ℕ) (word : List Bool) → bit_at (drop k word) 0 ≡ bit_at word k
+pub head-drop : (k : ℕ) (word : List Bool) → bit_at (drop k word) 0 ≡ bit_at word k
 head-drop k word = get_or-drop k word 0 false ∙ (let e : k + 0 ≡ k = omega arith in ap (λ n. bit_at word n) e)
 
 -- one bit on
@@ -76,10 +76,10 @@ All-split P (x ∷ xs) ys h =
 abbrev pub rest : List Part → ℕ → List ℕ
 rest parts i = flat_map part_bits (drop i parts)
 
-rest_more : (parts : List Part) (i : ℕ) (p : Part) → i < length parts → p ≡ get_or parts i p → rest parts i ≡ part_bits p ++ rest parts (i + 1)
+pub rest_more : (parts : List Part) (i : ℕ) (p : Part) → i < length parts → p ≡ get_or parts i p → rest parts i ≡ part_bits p ++ rest parts (i + 1)
 rest_more parts i p lt at = at_drop_more (λ ps. flat_map part_bits ps) parts i p lt ∙ ap (λ q. part_bits q ++ rest parts (i + 1)) (sym at)
 
-rest_done : (parts : List Part) (i : ℕ) → length parts ≤ i → rest parts i ≡ []
+pub rest_done : (parts : List Part) (i : ℕ) → length parts ≤ i → rest parts i ≡ []
 rest_done parts i le = ap (flat_map part_bits) (drop_all i parts le)
 
 -- what holds once the parts before i were written, of a word, as far as the place `from`

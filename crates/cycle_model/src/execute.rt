@@ -41,7 +41,7 @@ fn width(expr: &Expr) -> usize
 }
 
 /// The bit of an expression's value at this place.
-fn value_bit(expr: &Expr, at: usize, values: &[bool]) -> bool
+pub fn value_bit(expr: &Expr, at: usize, values: &[bool]) -> bool
     requires below { ReadsBelow expr.now (length values.now) }
     requires at { at < width_of expr.now }
     ensures { result ≡ bit_at (expr_value expr.now values.now) at }
@@ -59,7 +59,7 @@ fn value_bit(expr: &Expr, at: usize, values: &[bool]) -> bool
 }
 
 /// Whether some bit of the value is 1.
-fn holds(cond: &Expr, values: &[bool]) -> bool
+pub fn holds(cond: &Expr, values: &[bool]) -> bool
     requires { ReadsBelow cond.now (length values.now) }
     ensures { result ≡ any (expr_value cond.now values.now) }
 {
@@ -85,7 +85,7 @@ fn write(bits: &[Bit], from: usize, source: &Expr, values: &[bool], out: &mut [b
 }
 
 /// The bits of a part of a target.
-fn named(part: &Part) -> &[Bit]
+pub fn named(part: &Part) -> &[Bit]
     ensures { result.now ≡ part_bits part.now }
 {
     match part {

@@ -1,7 +1,9 @@
 //! Running a legal design cycle by cycle.
 #![tactic(auto)]
 
-mod execute;
+pub mod execute;
 mod phases;
 pub mod replay;
 pub mod sim;
+
+pub use phases::put_inputs;

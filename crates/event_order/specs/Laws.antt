@@ -1,5 +1,5 @@
 -- What holds of every order.
-use Rattle.std.specs.Prelude.{ℕ, ◌≡◌, ◌↔◌, Bool, List, [], ◌∷◌, length, All}
+use Rattle.std.specs.Prelude.{ℕ, ◌≡◌, ◌↔◌, ◌≤◌, Bool, List, [], ◌∷◌, length, All}
 use Rattle.design_core.specs.declared.flat.Design.{Design}
 use Rattle.design_core.specs.declared.setup.Setup.{Setup}
 use Rattle.design_core.specs.declared.setup.Stimulus.{Stimulus}
@@ -11,6 +11,7 @@ use Rattle.design_core.specs.Verdicts.{Point, Passes, NotWithin, Never, HitAt}
 use Rattle.event_order.specs.States.{State, IsQuiet}
 use Rattle.event_order.specs.Steps.{Step, Leads}
 use Rattle.event_order.specs.Cycles.{fresh, Runs}
+use Rattle.event_order.specs.Work.{work}
 use Rattle.event_order.specs.Verdicts.{IsMachineRun, MachineNotWithin, MachineNever, MachineHitAt}
 use Rattle.event_order.specs.Registers.{registers_in}
 
@@ -47,6 +48,11 @@ CanEnd d s = (xs : List Step) × (t : State) × Leads d s xs t × IsQuiet t
 
 abbrev pub EveryCycleEnds : Type 0
 EveryCycleEnds = (d : Design) (order : List ℕ) (s : State) → IsLegal d order → length s.pending ≡ length d.processes → CanEnd d s
+
+-- No list of steps is longer than the work that is left: none goes on for ever.
+abbrev pub EveryOrderEnds : Type 0
+EveryOrderEnds = (d : Design) (order : List ℕ) (s : State) (xs : List Step) (t : State) → IsLegal d order → length s.pending ≡ length d.processes →
+    Leads d s xs t → length xs ≤ work d order s.pending s.waiting
 
 -- the verdicts over settled runs are those over the machine's runs
 pub record SameVerdicts (d : Design) (setup : Setup) (point : Point) : Type 0 where

@@ -5,3 +5,7 @@ pub mod Ready
 pub mod Registers
 pub mod Verdicts
 pub mod Laws
+pub mod Numbers
+pub mod Code
+pub mod Work
+pub mod Sims

@@ -1,6 +1,6 @@
 // Laws over every order of steps.
 
-ghost use Rattle.event_order.specs.Laws.{EveryOrderSettles, EveryCycleEnds, EveryVerdictAgrees, EveryStimulusRuns};
+ghost use Rattle.event_order.specs.Laws.{EveryOrderSettles, EveryCycleEnds, EveryOrderEnds, EveryVerdictAgrees, EveryStimulusRuns};
 
 /// Every run of the machine, in any order of steps, is a settled run, and every settled run is like one of the machine.
 pub fn law_every_order_settles()
@@ -10,6 +10,11 @@ pub fn law_every_order_settles()
 /// From every state that has a flag for each process some steps lead to a quiet one.
 pub fn law_every_cycle_ends()
     ensures { EveryCycleEnds }
+{}
+
+/// From such a state no list of steps is longer than the work that is left, so none goes on for ever.
+pub fn law_every_order_ends()
+    ensures { EveryOrderEnds }
 {}
 
 /// What is said of a point over settled runs is said of it over the machine's.

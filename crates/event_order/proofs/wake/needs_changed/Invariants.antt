@@ -1,0 +1,8 @@
+use Rattle.std.proofs.Common.{◌≡◌, ◌&&◌, false}
+use Rattle.design_core.specs.Exec.{bit_at, xor}
+use Rattle.design_core.specs.Drive.{needs}
+use Rattle.event_order.specs.States.{some_below}
+use Rattle.event_order.proofs.wake.needs_changed.Given as goal
+
+abbrev pub invariant-loop-bit : goal.invariant-loop-bit
+invariant-loop-bit l = some_below l.bit (λ b. needs l.body b && xor (bit_at l.old b) (bit_at l.new b)) ≡ false

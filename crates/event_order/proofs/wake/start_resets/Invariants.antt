@@ -1,0 +1,7 @@
+use Rattle.design_core.specs.declared.flat.Process.{Process}
+use Rattle.event_order.specs.Cycles.{starts}
+use Rattle.event_order.proofs.Waking.{RaisedBefore}
+use Rattle.event_order.proofs.wake.start_resets.Given as goal
+
+abbrev pub invariant-loop-k : goal.invariant-loop-k
+invariant-loop-k l = RaisedBefore (λ (p : Process). starts l.is_first p l.old l.new) l.processes l.initial.pending l.k l.pending

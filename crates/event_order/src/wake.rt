@@ -1,0 +1,213 @@
+// What a change of values wakes.
+
+ghost use Rattle.std.specs.Prelude.{◌≡◌, ◌&&◌, length};
+ghost use Rattle.design_core.specs.Exec.{bit_at, xor, target_bits};
+ghost use Rattle.design_core.specs.Drive.{among, reads, always, needs};
+ghost use Rattle.design_core.specs.Settled.{is_clocked, reset_of, is_active};
+ghost use Rattle.event_order.specs.States.{some_below, wakes, raised, woken};
+ghost use Rattle.event_order.specs.Cycles.{starts, is_reset};
+
+use cycle_model::execute::named;
+use design_core::flat::{Bit, Expr, ProcKind, Process, Reset, Stmt, Target};
+
+/// Whether a bit is one of these.
+fn is_among(bits: &[Bit], bit: usize) -> bool
+    ensures { result ≡ among bits.now bit }
+{
+    for b in bits {
+        if *b as usize == bit {
+            return true;
+        }
+    }
+    false
+}
+
+/// Whether a bit is one of the target's.
+fn has_bit(target: &Target, bit: usize) -> bool
+    ensures { result ≡ among (target_bits target.now) bit }
+{
+    for part in target.parts.as_slice() {
+        if is_among(named(part), bit) {
+            return true;
+        }
+    }
+    false
+}
+
+/// Whether an expression reads a bit.
+fn expr_reads(expr: &Expr, bit: usize) -> bool
+    ensures { result ≡ reads expr.now bit }
+{
+    match expr {
+        Expr::Const(_) => false,
+        Expr::Read(bits) => is_among(bits.as_slice(), bit),
+        Expr::Unary { op: _, value } => expr_reads(value.get(), bit),
+        Expr::Binary { op: _, left, right } => {
+            expr_reads(left.get(), bit) || expr_reads(right.get(), bit)
+        }
+    }
+}
+
+/// Whether every path assigns a bit at once.
+fn body_always(body: &Stmt, bit: usize) -> bool
+    ensures { result ≡ always body.now bit }
+{
+    match body {
+        Stmt::Assign {
+            site: _,
+            delayed,
+            target,
+            value: _,
+        } => !*delayed && has_bit(target, bit),
+        Stmt::Branch {
+            site: _,
+            cond: _,
+            yes,
+            no,
+        } => body_always(yes.get(), bit) && body_always(no.get(), bit),
+        Stmt::Block(all) => {
+            for s in all.as_slice() {
+                if body_always(s, bit) {
+                    return true;
+                }
+            }
+            false
+        }
+    }
+}
+
+/// Whether a bit is read where not every path has assigned it at once before.
+fn body_needs(body: &Stmt, bit: usize) -> bool
+    ensures { result ≡ needs body.now bit }
+{
+    match body {
+        Stmt::Assign {
+            site: _,
+            delayed: _,
+            target: _,
+            value,
+        } => expr_reads(value, bit),
+        Stmt::Branch {
+            site: _,
+            cond,
+            yes,
+            no,
+        } => {
+            if expr_reads(cond, bit) {
+                return true;
+            }
+            if body_needs(yes.get(), bit) {
+                return true;
+            }
+            body_needs(no.get(), bit)
+        }
+        Stmt::Block(all) => {
+            for s in all.as_slice() {
+                if body_needs(s, bit) {
+                    return true;
+                }
+                if body_always(s, bit) {
+                    return false;
+                }
+            }
+            false
+        }
+    }
+}
+
+/// Whether a body reads a changed bit before assigning it.
+fn needs_changed(body: &Stmt, old: &[bool], new: &[bool]) -> bool
+    requires { length new.now ≡ length old.now }
+    ensures { result ≡ some_below (length old.now) (λ b. needs body.now b && xor (bit_at old.now b) (bit_at new.now b)) }
+{
+    for bit in 0..old.len() {
+        if old[bit] ^ new[bit] && body_needs(body, bit) {
+            return true;
+        }
+    }
+    false
+}
+
+/// Whether the clock's edge or a reset runs a process.
+pub fn is_edge_run(process: &Process) -> bool
+    ensures { result ≡ is_clocked process.now.kind }
+{
+    matches!(process.kind, ProcKind::Clocked { reset: _ })
+}
+
+/// Whether a change of values wakes a process.
+fn is_woken(process: &Process, old: &[bool], new: &[bool]) -> bool
+    requires { length new.now ≡ length old.now }
+    ensures { result ≡ wakes process.now old.now new.now }
+{
+    !is_edge_run(process) && needs_changed(&process.body, old, new)
+}
+
+/// Makes pending what a change of values wakes. Takes time linear in the number of bits for each process, and
+/// for each bit changed in the size of its body.
+pub fn wake(processes: &[Process], old: &[bool], new: &[bool], pending: &mut [bool])
+    requires long { length new.now ≡ length old.now }
+    requires pending { length pending.old ≡ length processes.now }
+    ensures { pending.new ≡ woken processes.now old.now new.now pending.old }
+{
+    for (k, process) in processes.iter().enumerate() {
+        if is_woken(process, old, new) {
+            pending[k] = true;
+        }
+    }
+}
+
+/// The value of a bit, or false where there is none.
+fn bit_or_low(values: &[bool], bit: Bit) -> bool
+    ensures { result ≡ bit_at values.now bit }
+{
+    match values.get(bit as usize) {
+        Some(value) => *value,
+        None => false,
+    }
+}
+
+/// Whether a reset is at its active level.
+fn is_at_level(reset: Option<Reset>, values: &[bool]) -> bool
+    ensures { result ≡ is_active reset values.now }
+{
+    match reset {
+        None => false,
+        Some(reset) => !(bit_or_low(values, reset.bit) ^ reset.active),
+    }
+}
+
+/// Whether the reset of a process is active.
+fn has_active_reset(process: &Process, values: &[bool]) -> bool
+    ensures { result ≡ is_reset process.now values.now }
+{
+    match process.kind {
+        ProcKind::Comb => false,
+        ProcKind::Clocked { reset } => is_at_level(reset, values),
+    }
+}
+
+/// Whether the reset of a process became active, or is active in the first cycle.
+fn is_starting(process: &Process, is_first: bool, old: &[bool], new: &[bool]) -> bool
+    ensures { result ≡ starts is_first process.now old.now new.now }
+{
+    has_active_reset(process, new) && (is_first || !has_active_reset(process, old))
+}
+
+/// Makes pending each process whose reset became active, or is active in the first cycle.
+pub fn start_resets(
+    processes: &[Process],
+    is_first: bool,
+    old: &[bool],
+    new: &[bool],
+    pending: &mut [bool],
+)
+    requires { length pending.old ≡ length processes.now }
+    ensures { pending.new ≡ raised (λ p. starts is_first p old.now new.now) processes.now pending.old }
+{
+    for (k, process) in processes.iter().enumerate() {
+        if is_starting(process, is_first, old, new) {
+            pending[k] = true;
+        }
+    }
+}

@@ -1,0 +1,39 @@
+-- From the settled runs to those in every order.
+use Rattle.std.proofs.Common.{◌≡◌, [], Contains, get_or}
+use Rattle.vlog_tree.specs.declared.Tree.{Tree}
+use Rattle.design_core.specs.declared.flat.Design.{Design}
+use Rattle.design_core.specs.declared.setup.Setup.{Setup}
+use Rattle.design_core.specs.Legality.{IsLegal}
+use Rattle.cert_text.specs.declared.cert.Cert.{Cert}
+use Rattle.cert_text.specs.declared.claim.Claim.{Claim}
+use Rattle.cert_text.specs.declared.claim.Verdict.{Verdict}
+use Rattle.cert_text.specs.declared.claim.Verdict.TheVariants as verdicts
+use Rattle.source_check.specs.declared.points.Point.{Point}
+use Rattle.source_check.specs.declared.points.Test.{Test}
+use Rattle.source_check.specs.declared.points.Test.TheVariants.{Passed}
+use Rattle.source_check.specs.Points.{points_of, hit_by}
+use Rattle.source_check.specs.Judging.{IsTrueOf}
+use Rattle.source_check.proofs.LegalDesigns.{text_design_is_legal}
+use Rattle.event_order.specs.Laws.{SameVerdicts}
+use Rattle.event_order.proofs.Main.{site_verdicts, stimulus_runs}
+use Rattle.every_order.specs.Truth.{IsTrueInEveryOrder, TrueInEveryOrder}
+
+module _ (d : Design) (legal : IsLegal d []) where
+  -- the verdicts on a point are the same over both kinds of runs
+  same : (setup : Setup) (test : Test) → SameVerdicts d setup (hit_by d test)
+  same setup (Passed site) = site_verdicts d [] legal setup site
+
+  -- what is told of a point
+  here : (cert : Cert) (p : Point) (v : Verdict) → IsTrueOf d cert p v → IsTrueInEveryOrder d cert p v
+  here cert p (verdicts.Reached cycle) (c, s, there, name, body, hit, run) =
+      (c, s, there, name, body, ((same cert.setup p.test).hit s cycle).0 hit, stimulus_runs d [] legal cert.setup s hit.fits)
+  here cert p verdicts.Excluded h = (same cert.setup p.test).never.0 h
+  here cert p (verdicts.Open cycles) h = ((same cert.setup p.test).within cycles).0 h
+
+  -- what is told of the point of a claim
+  told : (cert : Cert) (c : Claim) → ((p : Point) × Contains (points_of d cert.setup) p × (p.name ≡ c.point) × IsTrueOf d cert p c.verdict) →
+      ((p : Point) × Contains (points_of d cert.setup) p × (p.name ≡ c.point) × IsTrueInEveryOrder d cert p c.verdict)
+  told cert c (p, there, name, h) = (p, there, name, here cert p c.verdict h)
+
+pub true_in_every_order : TrueInEveryOrder
+true_in_every_order tree cert claims (d, is, names, all) = (d, is, names, λ k c lt. told d (text_design_is_legal tree cert.setup d is.design) cert (get_or claims k c) (all k c lt))
