@@ -7,6 +7,3 @@ mod graph;
 
 pub use gate::Gate;
 pub use graph::{Aig, Memory, negated, value_at};
-
-#[cfg(test)]
-mod tests;

@@ -20,6 +20,3 @@ pub use claim::{Claim, Verdict};
 pub use error::CertError;
 pub use read::read_cert;
 pub use write::{law_read_certs_are_written_back, law_written_certs_are_read, write_cert};
-
-#[cfg(test)]
-mod tests;

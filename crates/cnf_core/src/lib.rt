@@ -248,6 +248,3 @@ impl Clauses {
         self.spans.truncate(count);
     }
 }
-
-#[cfg(test)]
-mod tests;

@@ -7,8 +7,6 @@ mod fault;
 mod lent;
 mod proof;
 mod shape;
-#[cfg(test)]
-mod tests;
 
 pub use check::{check_ladder, check_with, checker_for};
 pub use fault::{LadderFault, Query, QueryFault};

@@ -234,6 +234,3 @@ pub fn refutes(alloc: Global, clauses: &Clauses, lines: &[Line], vars: u32) -> R
     }
     Ok(checker.closed())
 }
-
-#[cfg(test)]
-mod tests;

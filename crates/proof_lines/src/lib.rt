@@ -10,6 +10,3 @@ pub use error::LratError;
 pub use read::{read_line, read_lrat};
 pub use sink::{KeepSink, NoSink, ProofSink, TextSink};
 pub use write::write_lrat;
-
-#[cfg(test)]
-mod tests;

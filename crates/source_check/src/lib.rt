@@ -14,6 +14,3 @@ pub use checking::{check, front};
 pub use error::{CheckError, SourceError};
 pub use judging::judge;
 pub use points::{Front, Point, Test};
-
-#[cfg(test)]
-mod tests;

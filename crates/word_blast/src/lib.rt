@@ -12,6 +12,3 @@ pub use arithmetic::{blast_add, blast_mul, blast_neg, blast_sub};
 pub use bitwise::{blast_and, blast_mux, blast_not, blast_or, blast_xnor, blast_xor};
 pub use comparisons::{blast_all, blast_any, blast_equal, blast_less, blast_odd};
 pub use shifts::{blast_shl, blast_shr, blast_sshr};
-
-#[cfg(test)]
-mod tests;

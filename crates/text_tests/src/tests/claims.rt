@@ -1,0 +1,55 @@
+//! Texts and their claims.
+use cert_text::read_cert;
+use source_check::{CheckError, SourceError, check, front, judge};
+use std::test::Fail;
+use vlog_items::parse;
+
+const TEXT: &[u8] =
+    b"module t(input clk, input a, output reg q); always @(posedge clk) q <= a; endmodule";
+
+const CERT: &[u8] =
+    b"unr 1\ntop t\nclock clk\ncycles 0\npoints s\nclaims 1\nS t #1\nreached 0\nstart 0\nin 0\nend\n";
+
+// The stimulus has one line too few for cycle 1.
+const LATE: &[u8] =
+    b"unr 1\ntop t\nclock clk\ncycles 0\npoints s\nclaims 1\nS t #1\nreached 1\nstart 0\nin 0\nend\n";
+
+// A register that starts with 1, and an arm.
+const LOGIC: &[u8] =
+    b"module t(input clk, input a, output reg q = 1'b1); always @(posedge clk) if (~a | q) q <= ~q; endmodule";
+
+const LOGIC_CERT: &[u8] =
+    b"unr 1\ntop t\nclock clk\ncycles 0\npoints s\nclaims 1\nS t #1\nreached 0\nstart 1\nin 1\nend\n";
+
+const NOT_BUILT: [&[u8]; 5] = [
+    b"module u(input clk, input a, output reg q); always @(posedge clk) q <= a; endmodule",
+    b"module t(input clk, input clk, output reg q); always @(posedge clk) q <= clk; endmodule",
+    b"module t(input clk, input a, output reg q); always @(posedge clk) q <= clk; endmodule",
+    b"module t(input clk, input a, output reg q); always @(posedge clk) if (clk) q <= a; endmodule",
+    b"module t(input clk, input a, output reg q); endmodule",
+];
+
+#[test]
+fn checks(rt: HostRuntime) -> Result<(), Fail> {
+    let alloc = rt.alloc();
+    assert_eq!(rt; check(alloc, TEXT, CERT)?.len(), 1);
+    assert_eq!(rt; check(alloc, LOGIC, LOGIC_CERT)?.len(), 1);
+    assert!(rt; matches!(check(alloc, TEXT, LATE), Err(CheckError::NotHit { .. })));
+    for text in NOT_BUILT {
+        let found = check(alloc, text, CERT);
+        assert!(rt; matches!(found, Err(CheckError::Source(SourceError::NotBuilt { .. }))));
+    }
+    Ok(())
+}
+
+#[test]
+fn judges(rt: HostRuntime) -> Result<(), Fail> {
+    let alloc = rt.alloc();
+    let tree = parse(alloc, TEXT)?;
+    let cert = read_cert(alloc, CERT)?;
+    assert_eq!(rt; judge(alloc, &tree, &cert)?.len(), 1);
+    let front = front(alloc, TEXT, &cert.setup)?;
+    assert_eq!(rt; front.points.len(), 1);
+    assert_eq!(rt; front.legal.design().registers.as_slice(), [2].as_slice());
+    Ok(())
+}
