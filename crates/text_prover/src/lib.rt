@@ -10,3 +10,6 @@ mod proving;
 
 pub use laws::law_accepted_certs_are_accepted;
 pub use proving::{Proven, prove_text};
+
+#[cfg(test)]
+mod tests;
