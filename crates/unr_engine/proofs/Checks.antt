@@ -13,16 +13,16 @@ use Rattle.source_check.specs.declared.error.CheckError.{CheckError}
 use Rattle.source_check.specs.Checking.{ReadAndJudged}
 use Rattle.source_check.specs.Judging.{Judges, AreTrue}
 use Rattle.unr_engine.specs.declared.stop.Refusal.TheVariants as refusal
-use Rattle.unr_engine.specs.Content.{SpellNothing, CheckRefuses, Answers}
+use Rattle.unr_engine.specs.Content.{SpellNothing, CheckRefuses, check_work, Answers}
 use Rattle.unr_engine.specs.Report.{report}
 use Rattle.unr_engine.specs.Steps.{Fetched}
 use Rattle.unr_engine.specs.Words.{Check_files}
 use Rattle.unr_engine.proofs.Runs.{SoFar, begun, fetched}
 
-pub file_loaded : (file cert : List ℕ) (text : Vec ℕ Global) (desk desk' : DeskState) → Fetched file 4194305 (Ok text) desk desk' → SoFar (Check_files file cert) (text.items ∷ []) desk desk'
+pub file_loaded : (file cert : List ℕ) (text : Vec ℕ Global) (desk desk' : DeskState) → Fetched file 4194305 (Ok text) desk desk' → SoFar (Check_files file cert) (text.items ∷ []) [] desk desk'
 file_loaded file cert text desk desk' f = fetched (Check_files file cert) [] file 4194305 text desk desk desk' (begun (Check_files file cert) desk) refl f
 
-pub both_loaded : (file cert : List ℕ) (text spelling : Vec ℕ Global) (desk desk' desk'' : DeskState) → Fetched file 4194305 (Ok text) desk desk' → Fetched cert (2 ^ 64 - 1) (Ok spelling) desk' desk'' → SoFar (Check_files file cert) (text.items ∷ spelling.items ∷ []) desk desk''
+pub both_loaded : (file cert : List ℕ) (text spelling : Vec ℕ Global) (desk desk' desk'' : DeskState) → Fetched file 4194305 (Ok text) desk desk' → Fetched cert (2 ^ 64 - 1) (Ok spelling) desk' desk'' → SoFar (Check_files file cert) (text.items ∷ spelling.items ∷ []) [] desk desk''
 both_loaded file cert text spelling desk desk' desk'' f g =
     fetched (Check_files file cert) (text.items ∷ []) cert (2 ^ 64 - 1) spelling desk desk' desk'' (file_loaded file cert text desk desk' f) refl g
 
@@ -67,8 +67,8 @@ pub check_refused : (text text' spelling spelling' : List ℕ) (tree : Tree) (ce
 check_refused text text' spelling spelling' tree certificate error t s a b j = (text, spelling, refl, judged_so text text' spelling spelling' tree certificate (Err error) t s a b j)
 
 -- and no refusal
-pub answered : (file cert text text' spelling spelling' : List ℕ) (tree : Tree) (certificate : Cert) (claims shown : List Claim) (put : List ℕ) → text' ≡ text → spelling' ≡ spelling → TextAnswers text' (Ok tree) → CertAnswers spelling' (Ok certificate) → Judges tree certificate (Ok claims) → AreTrue tree certificate claims → shown ≡ claims → put ≡ report shown → Answers (Check_files file cert) (text ∷ spelling ∷ []) put
-answered file cert text text' spelling spelling' tree certificate claims shown put t s a b j facts same r = (
+pub answered : (file cert text text' spelling spelling' : List ℕ) (tree : Tree) (certificate : Cert) (claims : List Claim) → text' ≡ text → spelling' ≡ spelling → TextAnswers text' (Ok tree) → CertAnswers spelling' (Ok certificate) → Judges tree certificate (Ok claims) → AreTrue tree certificate claims → Answers (Check_files file cert) (text ∷ spelling ∷ []) (check_work claims)
+answered file cert text text' spelling spelling' tree certificate claims t s a b j facts = (
   text,
   spelling,
   refl,
@@ -76,6 +76,10 @@ answered file cert text text' spelling spelling' tree certificate claims shown p
     claims = claims;
     accepted = judged_so text text' spelling spelling' tree certificate (Ok claims) t s a b j;
     are_true = facts;
-    reported = r ∙ ap report same;
+    reported = refl;
   },
 )
+
+-- the report that is put out
+pub report_of : (claims shown : List Claim) (put : List ℕ) → shown ≡ claims → put ≡ report shown → put ≡ report claims
+report_of claims shown put same r = r ∙ ap report same

@@ -1,5 +1,6 @@
 -- The bytes of the files deserve one status.
-use Rattle.std.proofs.Common.{◌≡◌, ◌⊎◌, ℕ, ◌+◌, ◌-◌, ◌^◌, List, [], ◌∷◌, take, Some, Result, Ok, Err, refl, ap, ◌∙◌, sym, subst, inl, inr, arith}
+use Rattle.std.proofs.Common.{◌≡◌, ◌⊎◌, ℕ, Bool, false, ◌+◌, ◌-◌, ◌^◌, List, [], ◌∷◌, take, Some, Result, Ok, Err, refl, ap, ◌∙◌, sym, subst, inl, inr, arith}
+use Rattle.unr_io.specs.declared.desk.Kind.TheVariants.{Load, Store}
 use Rattle.unr_io.specs.Desk.{DeskState, Told, Rose}
 use Rattle.unr_io.specs.Sink.{SinkState}
 use Rattle.vlog_tree.specs.declared.Tree.{Tree}
@@ -45,14 +46,14 @@ use Rattle.unr_engine.specs.declared.stop.Refusal.{Refusal}
 use Rattle.unr_engine.specs.declared.stop.Refusal.TheVariants as refusal
 use Rattle.unr_engine.specs.Words.{Check_files, Names}
 use Rattle.unr_engine.specs.Ends.{End, Done, Stopped, Not_words, Fault_at, Fault_of_output, Out_of_memory, Not_taken}
-use Rattle.unr_engine.specs.Content.{CheckRefuses, Answers}
+use Rattle.unr_engine.specs.Content.{Work, CheckRefuses, Answers}
 use Rattle.unr_engine.specs.Outcome.{IsFrontOfFile, AreLoaded, loads_of, Ran, Outcome}
 use Rattle.unr_engine.specs.Promises.{AreTold, HasText, HaveBytes, judged_status, Deserve, Agree}
 use Rattle.unr_engine.proofs.Checks.{text_so, both_so, nothing_so}
 use Rattle.unr_engine.proofs.Kept.{told_of, ran_of}
 
 -- a text that has a tree is refused for want of memory alone
-text_or_none : (text : List ℕ) (tree : Tree) (error : TextError) → TextAnswers text (Ok tree) → TextAnswers text (Err error) → text_status error ≡ 7
+pub text_or_none : (text : List ℕ) (tree : Tree) (error : TextError) → TextAnswers text (Ok tree) → TextAnswers text (Err error) → text_status error ≡ 7
 text_or_none text tree (text_error.TooLong count) a b = absurd (omega (arith, a.0, b.0))
 text_or_none text tree (text_error.Parse (parse_error.Expected place what)) a b = absurd (not_both text tree place what a b)
 text_or_none text tree (text_error.Parse (parse_error.TooDeep place)) a b = absurd (not_too_deep text tree place a b)
@@ -68,7 +69,7 @@ one_cert : (text : List ℕ) (cert other : Cert) → CertAnswers text (Ok cert) 
 one_cert text cert other a b = one_certificate cert other a.0 b.0 (sym a.1 ∙ b.1)
 
 -- a text has one design
-one_design : (tree : Tree) (setup : Setup) (d e : Design) → IsDesignOf tree setup d → IsDesignOf tree setup e → d ≡ e
+pub one_design : (tree : Tree) (setup : Setup) (d e : Design) → IsDesignOf tree setup d → IsDesignOf tree setup e → d ≡ e
 one_design tree setup d e a b =
     let same : a.0 ≡ b.0 = (let k : a.0 ∷ [] ≡ b.0 ∷ [] = sym a.1 ∙ b.1 in cc) in
     a.3 ∙ (ap (λ (m : Module). design_of m setup) same ∙ sym b.3)
@@ -107,11 +108,11 @@ accepted_or_fails tree cert claims fault a f =
     no_fault (system_of a.0 cert.setup) a.0 cert.setup 0 (points_of a.0 cert.setup) cert.claims fault a.2
     (let P : Design → Type 0 = λ d. FirstFault (system_of d cert.setup) d cert.setup 0 (points_of d cert.setup) cert.claims fault in subst P same f.2)
 
-built : (tree : Tree) (setup : Setup) (d : Design) → IsDesignOf tree setup d → IsBuilt tree setup
+pub built : (tree : Tree) (setup : Setup) (d : Design) → IsDesignOf tree setup d → IsBuilt tree setup
 built tree setup d a = (a.0, a.1, a.2)
 
 -- a design that may be taken doesn't cost too much
-cheap_or_costly : (tree : Tree) (setup : Setup) (d : Design) (cost : ℕ) → IsElaborated tree setup d → TooCostly tree setup cost → ⊥
+pub cheap_or_costly : (tree : Tree) (setup : Setup) (d : Design) (cost : ℕ) → IsElaborated tree setup d → TooCostly tree setup cost → ⊥
 cheap_or_costly tree setup d cost a b =
     let same = one_design tree setup d b.0 a.design b.1 in
     let cheap = a.cheap in
@@ -181,7 +182,7 @@ are_judged_alike text spelling x y a b =
     judged_alike a.0 a.1 x y a.4 (subst Q cert (subst P tree b.4))
 
 -- statuses of refusals
-text_four : (error : TextError) → (text_status error ≡ 4) ⊎ (text_status error ≡ 7)
+pub text_four : (error : TextError) → (text_status error ≡ 4) ⊎ (text_status error ≡ 7)
 text_four (text_error.TooLong count) = inl refl
 text_four (text_error.Parse (parse_error.Expected place what)) = inl refl
 text_four (text_error.Parse (parse_error.TooDeep place)) = inl refl
@@ -192,7 +193,7 @@ cert_five : (error : CertError) → (cert_status error ≡ 5) ⊎ (cert_status e
 cert_five (cert_error.BadCert line) = inl refl
 cert_five cert_error.Memory = inr refl
 
-same_or_memory : (n a b : ℕ) → (a ≡ n) ⊎ (a ≡ 7) → (b ≡ n) ⊎ (b ≡ 7) → Agree a b
+pub same_or_memory : (n a b : ℕ) → (a ≡ n) ⊎ (a ≡ 7) → (b ≡ n) ⊎ (b ≡ 7) → Agree a b
 same_or_memory n a b (inl x) (inl y) = inl (x ∙ sym y)
 same_or_memory n a b (inl x) (inr y) = inr (inr y)
 same_or_memory n a b (inr x) y = inr (inl x)
@@ -210,7 +211,7 @@ deserve_once text spelling a b (inr (inr x)) (inr (inl y)) = inr (inr (y.2 ∙ c
 deserve_once text spelling a b (inr (inr x)) (inr (inr y)) = rw (x.2, y.2) (are_judged_alike text spelling x.0 y.0 x.1 y.1)
 
 -- the bytes of a file are the same whenever it is loaded
-one_front : (load : List ℕ × ℕ) (files : List (List ℕ × List ℕ)) (x y : List ℕ) → IsFrontOfFile load files x → IsFrontOfFile load files y → x ≡ y
+pub one_front : (load : List ℕ × ℕ) (files : List (List ℕ × List ℕ)) (x y : List ℕ) → IsFrontOfFile load files x → IsFrontOfFile load files y → x ≡ y
 one_front load files x y a b =
     let same : a.0 ≡ b.0 = (let k : Some a.0 ≡ Some b.0 = sym a.1 ∙ b.1 in cc) in
     a.2 ∙ (ap (λ file. take load.1 file) same ∙ sym b.2)
@@ -226,26 +227,34 @@ refusal_deserved file cert text spelling loaded (refusal.Cert error) files have 
 refusal_deserved file cert text spelling loaded (refusal.Check error) files have are r =
     let are' = subst (λ l. AreLoaded (loads_of (Check_files file cert)) l files) r.2 are in
     inr (inr (Err error, both_so text r.0 spelling r.1 (Err error) (one_front (file, 4194305) files r.0 text are'.0 have.0) (one_front (cert, 2 ^ 64 - 1) files r.1 spelling are'.1.0 have.1.0) r.3, refl))
+refusal_deserved file cert text spelling loaded (refusal.Source error) files have are r = absurd r
 
 -- and its report
-report_deserved : (file cert text spelling put : List ℕ) (loaded : List (List ℕ)) (files : List (List ℕ × List ℕ)) → AreLoaded (loads_of (Check_files file cert)) (text ∷ spelling ∷ []) files → AreLoaded (loads_of (Check_files file cert)) loaded files → Answers (Check_files file cert) loaded put → Deserve text spelling 0
-report_deserved file cert text spelling put loaded files have are r =
+report_deserved : (file cert text spelling : List ℕ) (work : Work) (loaded : List (List ℕ)) (files : List (List ℕ × List ℕ)) → AreLoaded (loads_of (Check_files file cert)) (text ∷ spelling ∷ []) files → AreLoaded (loads_of (Check_files file cert)) loaded files → Answers (Check_files file cert) loaded work → Deserve text spelling 0
+report_deserved file cert text spelling work loaded files have are r =
     let are' = subst (λ l. AreLoaded (loads_of (Check_files file cert)) l files) r.2 are in
     inr (inr (Ok r.3.claims, both_so text r.0 spelling r.1 (Ok r.3.claims) (one_front (file, 4194305) files r.0 text are'.0 have.0) (one_front (cert, 2 ^ 64 - 1) files r.1 spelling are'.1.0 have.1.0) r.3.accepted, refl))
+
+-- `check` leaves nothing open
+done_zero : (file cert : List ℕ) (left_open : Bool) (loaded : List (List ℕ)) (work : Work) → Answers (Check_files file cert) loaded work → work.left_open ≡ left_open → status_of (Done left_open) ≡ 0
+done_zero file cert left_open loaded work r same =
+    let none : false ≡ left_open = sym (ap (λ (w : Work). w.left_open) r.3.reported) ∙ same in
+    ap (λ b. status_of (Done b)) (sym none)
 
 -- where no count rose, the status is the one deserved
 ran_exact : (file cert text spelling : List ℕ) (status deserved : ℕ) (end : End) (known : Told) (desk desk' : DeskState) (out out' : SinkState) → Ran (Check_files file cert) end desk desk' out out' → status ≡ status_of end
     → desk.told ≡ Some known → AreLoaded (loads_of (Check_files file cert)) (text ∷ spelling ∷ []) known.files → Deserve text spelling deserved
     → (Rose desk.faults desk'.faults → ⊥) → (Rose out.faults out'.faults → ⊥) → Agree status deserved
-ran_exact file cert text spelling status deserved Done known desk desk' out out' ran e told have deserve desk_well out_well =
-    let are : AreTold (Some known) (Check_files file cert) ran.loaded = subst (λ t. AreTold t (Check_files file cert) ran.loaded) told (told_of (Check_files file cert) ran.loaded [] desk.told desk'.told ran.desk_kept) in
-    rw e (deserve_once text spelling 0 deserved (report_deserved file cert text spelling ran.piece ran.loaded known.files have are ran.reason) deserve)
+ran_exact file cert text spelling status deserved (Done left_open) known desk desk' out out' ran e told have deserve desk_well out_well =
+    let are : AreTold (Some known) (Check_files file cert) ran.loaded = subst (λ t. AreTold t (Check_files file cert) ran.loaded) told (told_of (Check_files file cert) ran.loaded ran.held [] desk.told desk'.told ran.desk_kept) in
+    rw (e, done_zero file cert left_open ran.loaded (record { stores = ran.held; text = ran.piece; left_open = left_open }) ran.reason refl) (deserve_once text spelling 0 deserved (report_deserved file cert text spelling (record { stores = ran.held; text = ran.piece; left_open = left_open }) ran.loaded known.files have are ran.reason) deserve)
 ran_exact file cert text spelling status deserved (Stopped Not_words) known desk desk' out out' ran e told have deserve desk_well out_well = absurd ran.reason
-ran_exact file cert text spelling status deserved (Stopped (Fault_at name)) known desk desk' out out' ran e told have deserve desk_well out_well = absurd (desk_well ran.reason.1)
+ran_exact file cert text spelling status deserved (Stopped (Fault_at Load name)) known desk desk' out out' ran e told have deserve desk_well out_well = absurd (desk_well ran.reason.1)
+ran_exact file cert text spelling status deserved (Stopped (Fault_at Store name)) known desk desk' out out' ran e told have deserve desk_well out_well = absurd (desk_well ran.reason.1)
 ran_exact file cert text spelling status deserved (Stopped Fault_of_output) known desk desk' out out' ran e told have deserve desk_well out_well = absurd (out_well ran.reason.1)
 ran_exact file cert text spelling status deserved (Stopped Out_of_memory) known desk desk' out out' ran e told have deserve desk_well out_well = inr (inl e)
 ran_exact file cert text spelling status deserved (Stopped (Not_taken refusal)) known desk desk' out out' ran e told have deserve desk_well out_well =
-    let are : AreTold (Some known) (Check_files file cert) ran.loaded = subst (λ t. AreTold t (Check_files file cert) ran.loaded) told (told_of (Check_files file cert) ran.loaded [] desk.told desk'.told ran.desk_kept) in
+    let are : AreTold (Some known) (Check_files file cert) ran.loaded = subst (λ t. AreTold t (Check_files file cert) ran.loaded) told (told_of (Check_files file cert) ran.loaded ran.held [] desk.told desk'.told ran.desk_kept) in
     rw e (deserve_once text spelling (refusal_status refusal) deserved (refusal_deserved file cert text spelling ran.loaded refusal known.files have are ran.reason.0) deserve)
 
 pub exact_of : {words : List (List ℕ)} {status : ℕ} {desk desk' : DeskState} {out out' err err' : SinkState} → Outcome words status desk desk' out out' err err' → (file cert text spelling : List ℕ) (deserved : ℕ) → Names words (Check_files file cert) → HaveBytes desk.told file cert text spelling → Deserve text spelling deserved → (Rose desk.faults desk'.faults → ⊥) → (Rose out.faults out'.faults → ⊥) → Agree status deserved
@@ -265,24 +274,26 @@ refusal_first file cert text loaded error (refusal.Cert other) files have refuse
 refusal_first file cert text loaded error (refusal.Check other) files have refused are r =
     let are' = subst (λ l. AreLoaded (loads_of (Check_files file cert)) l files) r.2 are in
     tree_or_none text r.0 r.3.0 (check_status other) error (one_front (file, 4194305) files r.0 text are'.0 have) r.3.2 refused
+refusal_first file cert text loaded error (refusal.Source other) files have refused are r = absurd r
 
-report_first : (file cert text put : List ℕ) (loaded : List (List ℕ)) (error : TextError) (files : List (List ℕ × List ℕ)) → IsFrontOfFile (file, 4194305) files text → TextAnswers text (Err error) → AreLoaded (loads_of (Check_files file cert)) loaded files → Answers (Check_files file cert) loaded put → Agree 0 (text_status error)
-report_first file cert text put loaded error files have refused are r =
+report_first : (file cert text : List ℕ) (work : Work) (loaded : List (List ℕ)) (error : TextError) (files : List (List ℕ × List ℕ)) → IsFrontOfFile (file, 4194305) files text → TextAnswers text (Err error) → AreLoaded (loads_of (Check_files file cert)) loaded files → Answers (Check_files file cert) loaded work → Agree 0 (text_status error)
+report_first file cert text work loaded error files have refused are r =
     let are' = subst (λ l. AreLoaded (loads_of (Check_files file cert)) l files) r.2 are in
     tree_or_none text r.0 r.3.accepted.0 0 error (one_front (file, 4194305) files r.0 text are'.0 have) r.3.accepted.2 refused
 
 ran_text_first : (file cert text : List ℕ) (status : ℕ) (error : TextError) (end : End) (known : Told) (desk desk' : DeskState) (out out' : SinkState) → Ran (Check_files file cert) end desk desk' out out' → status ≡ status_of end
     → desk.told ≡ Some known → IsFrontOfFile (file, 4194305) known.files text → TextAnswers text (Err error)
     → (Rose desk.faults desk'.faults → ⊥) → (Rose out.faults out'.faults → ⊥) → Agree status (text_status error)
-ran_text_first file cert text status error Done known desk desk' out out' ran e told have refused desk_well out_well =
-    let are : AreTold (Some known) (Check_files file cert) ran.loaded = subst (λ t. AreTold t (Check_files file cert) ran.loaded) told (told_of (Check_files file cert) ran.loaded [] desk.told desk'.told ran.desk_kept) in
-    rw e (report_first file cert text ran.piece ran.loaded error known.files have refused are ran.reason)
+ran_text_first file cert text status error (Done left_open) known desk desk' out out' ran e told have refused desk_well out_well =
+    let are : AreTold (Some known) (Check_files file cert) ran.loaded = subst (λ t. AreTold t (Check_files file cert) ran.loaded) told (told_of (Check_files file cert) ran.loaded ran.held [] desk.told desk'.told ran.desk_kept) in
+    rw (e, done_zero file cert left_open ran.loaded (record { stores = ran.held; text = ran.piece; left_open = left_open }) ran.reason refl) (report_first file cert text (record { stores = ran.held; text = ran.piece; left_open = left_open }) ran.loaded error known.files have refused are ran.reason)
 ran_text_first file cert text status error (Stopped Not_words) known desk desk' out out' ran e told have refused desk_well out_well = absurd ran.reason
-ran_text_first file cert text status error (Stopped (Fault_at name)) known desk desk' out out' ran e told have refused desk_well out_well = absurd (desk_well ran.reason.1)
+ran_text_first file cert text status error (Stopped (Fault_at Load name)) known desk desk' out out' ran e told have refused desk_well out_well = absurd (desk_well ran.reason.1)
+ran_text_first file cert text status error (Stopped (Fault_at Store name)) known desk desk' out out' ran e told have refused desk_well out_well = absurd (desk_well ran.reason.1)
 ran_text_first file cert text status error (Stopped Fault_of_output) known desk desk' out out' ran e told have refused desk_well out_well = absurd (out_well ran.reason.1)
 ran_text_first file cert text status error (Stopped Out_of_memory) known desk desk' out out' ran e told have refused desk_well out_well = inr (inl e)
 ran_text_first file cert text status error (Stopped (Not_taken refusal)) known desk desk' out out' ran e told have refused desk_well out_well =
-    let are : AreTold (Some known) (Check_files file cert) ran.loaded = subst (λ t. AreTold t (Check_files file cert) ran.loaded) told (told_of (Check_files file cert) ran.loaded [] desk.told desk'.told ran.desk_kept) in
+    let are : AreTold (Some known) (Check_files file cert) ran.loaded = subst (λ t. AreTold t (Check_files file cert) ran.loaded) told (told_of (Check_files file cert) ran.loaded ran.held [] desk.told desk'.told ran.desk_kept) in
     rw e (refusal_first file cert text ran.loaded error refusal known.files have refused are ran.reason.0)
 
 pub text_first_of : {words : List (List ℕ)} {status : ℕ} {desk desk' : DeskState} {out out' err err' : SinkState} → Outcome words status desk desk' out out' err err' → (file cert text : List ℕ) (error : TextError) → Names words (Check_files file cert) → HasText desk.told file text → TextAnswers text (Err error) → (Rose desk.faults desk'.faults → ⊥) → (Rose out.faults out'.faults → ⊥) → Agree status (text_status error)

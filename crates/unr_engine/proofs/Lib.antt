@@ -1,7 +1,11 @@
 pub mod Checks
+pub mod Entries
+pub mod EntryWords
 pub mod Exact
 pub mod Kept
 pub mod PieceLists
+pub mod ProveKept
+pub mod Proved
 pub mod Putting
 pub mod Runs
 pub mod WordLists

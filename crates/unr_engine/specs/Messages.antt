@@ -94,14 +94,15 @@ abbrev pub refusal_message : Refusal → List ℕ
 refusal_message (refusal.Text error) = text_message error
 refusal_message (refusal.Cert error) = cert_message error
 refusal_message (refusal.Check error) = check_message error
+refusal_message (refusal.Source error) = source_message error
 
 abbrev pub why_message : Why → List ℕ
 why_message Not_words = codes "unr: words\n"
-why_message (Fault_at name) = codes "unr: fault " ++ (name ++ codes "\n")
+why_message (Fault_at kind name) = codes "unr: fault " ++ (name ++ codes "\n")
 why_message Fault_of_output = codes "unr: fault output\n"
 why_message Out_of_memory = memory_message
 why_message (Not_taken refusal) = refusal_message refusal
 
 abbrev pub message_of : End → List ℕ
-message_of Done = []
+message_of (Done left_open) = []
 message_of (Stopped why) = why_message why

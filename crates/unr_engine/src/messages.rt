@@ -5,7 +5,7 @@ ghost use Rattle.unr_engine.specs.Ends.{why_of};
 ghost use Rattle.unr_engine.specs.Messages.{memory_message, text_message, parse_message, cert_message, source_message, line_name, line_number, step_message, hit_message, ladder_message, check_message, refusal_message, why_message};
 
 use crate::pieces::{Piece, put_all};
-use crate::stop::{Refusal, Stop};
+use crate::stop::{Refusal, Stop, ending_text};
 use cert_text::CertError;
 use ladder_check::{LadderFault, Query, QueryFault};
 use lrat_check::LineFault;
@@ -274,6 +274,7 @@ fn say_refusal<E: Sink>(err: &mut E, refusal: &Refusal) -> Result<(), SinkError>
         Refusal::Text(error) => say_text_error(err, error),
         Refusal::Cert(error) => say_cert_error(err, error),
         Refusal::Check(error) => say_check_error(err, error),
+        Refusal::Source(error) => say_source_error(err, error),
     }
 }
 
@@ -283,11 +284,20 @@ pub fn say_stop<E: Sink>(err: &mut E, stop: &Stop<'_>) -> Result<(), SinkError>
 {
     match stop {
         Stop::Words => err.put(b"unr: words\n"),
-        Stop::Fault { name } => put_all(
+        Stop::NotLoaded { name } => put_all(
             err,
             &[
                 Piece::Text(b"unr: fault "),
                 Piece::Text(name.as_bytes()),
+                Piece::Text(b"\n"),
+            ],
+        ),
+        Stop::NotStored { prefix, ending } => put_all(
+            err,
+            &[
+                Piece::Text(b"unr: fault "),
+                Piece::Text(prefix.as_bytes()),
+                Piece::Text(ending_text(*ending).as_bytes()),
                 Piece::Text(b"\n"),
             ],
         ),

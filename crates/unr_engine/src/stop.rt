@@ -1,7 +1,7 @@
 // Why a run does not do what its words say, and the status of that.
 ghost use Rattle.std.specs.Prelude.{◌≡◌};
 ghost use Rattle.unr_engine.specs.Statuses.{text_status, cert_status, source_status, check_status, refusal_status, why_status};
-ghost use Rattle.unr_engine.specs.Ends.{why_of};
+ghost use Rattle.unr_engine.specs.Ends.{why_of, ending_text};
 
 use cert_text::CertError;
 use source_check::{CheckError, SourceError};
@@ -17,6 +17,27 @@ pub enum Refusal {
     Cert(CertError),
     /// The certificate is not accepted for the text.
     Check(CheckError),
+    /// The text has no points: it is refused, or its design is.
+    Source(SourceError),
+}
+
+/// How the name of a stored file ends, behind the prefix of the words.
+#[derive(Clone, Copy)]
+pub enum Ending {
+    /// The certificate.
+    Cert,
+    /// The exclusion list.
+    Excl,
+}
+
+/// The ending as text.
+pub fn ending_text(ending: Ending) -> &'static str
+    ensures { result.now ≡ ending_text ending }
+{
+    match ending {
+        Ending::Cert => ".cert",
+        Ending::Excl => ".excl",
+    }
 }
 
 /// Why a run does not do what its words say.
@@ -24,8 +45,10 @@ pub enum Refusal {
 pub enum Stop<'a> {
     /// The words name no command.
     Words,
-    /// A fault of the desk, at the file of that name.
-    Fault { name: &'a str },
+    /// A fault of the desk, at the load of that file.
+    NotLoaded { name: &'a str },
+    /// A fault of the desk, at the store of the file whose name is the prefix with that ending.
+    NotStored { prefix: &'a str, ending: Ending },
     /// A fault of the output.
     Output,
     Memory,
@@ -61,6 +84,17 @@ impl<'a> From<CertError> for Stop<'a> {
 
     fn from(error: CertError) -> Self {
         Stop::Refused(Refusal::Cert(error))
+    }
+}
+
+impl<'a> From<SourceError> for Stop<'a> {
+    ghost use Rattle.unr_engine.specs.declared.stop.Stop.TheVariants.{Refused};
+    ghost use Rattle.unr_engine.specs.declared.stop.Refusal.TheVariants as refusal;
+
+    ghost from_gives = { λ error stop. stop ≡ Refused (refusal.Source error) };
+
+    fn from(error: SourceError) -> Self {
+        Stop::Refused(Refusal::Source(error))
     }
 }
 
@@ -128,6 +162,7 @@ fn refusal_status(refusal: &Refusal) -> u8
         Refusal::Text(error) => text_status(error),
         Refusal::Cert(error) => cert_status(error),
         Refusal::Check(error) => check_status(error),
+        Refusal::Source(error) => source_status(error),
     }
 }
 
@@ -137,7 +172,8 @@ pub fn stop_status(stop: &Stop<'_>) -> u8
 {
     match stop {
         Stop::Words => 2,
-        Stop::Fault { .. } => 3,
+        Stop::NotLoaded { .. } => 3,
+        Stop::NotStored { .. } => 3,
         Stop::Output => 3,
         Stop::Memory => 7,
         Stop::Refused(refusal) => refusal_status(refusal),

@@ -1,22 +1,24 @@
 // From words to a command.
 ghost use Rattle.unr_engine.specs.Words.{texts};
-ghost use Rattle.unr_engine.specs.Requests.{ReadsAs, command_of, check_of, is_option};
-ghost use Rattle.std.specs.Prelude.{◌≡◌};
+ghost use Rattle.unr_engine.specs.Requests.{ReadsAs, command_of, check_of, prove_of, prove_given, givens_are};
+
+use crate::options::{Givens, effort_of, givens_of, is_option, no_prelude, once, statements_alone};
 
 /// A command, in the words that name it.
 #[derive(Clone, Copy)]
 pub enum Request<'a> {
-    Check { file: &'a str, cert: &'a str },
-}
-
-// A word that begins with a hyphen is an option.
-fn is_option(word: &str) -> bool
-    ensures { result ≡ is_option word.now }
-{
-    match word.as_bytes().first() {
-        Some(byte) => *byte == b'-',
-        None => false,
-    }
+    Check {
+        file: &'a str,
+        cert: &'a str,
+    },
+    Prove {
+        file: &'a str,
+        top: &'a str,
+        clock: &'a str,
+        prefix: &'a str,
+        /// How many units each point may take.
+        effort: u64,
+    },
 }
 
 // The words after `check`.
@@ -32,6 +34,33 @@ fn check_of(words: &[String]) -> Option<Request<'_>>
     }
 }
 
+fn prove_given<'a>(givens: Givens<'a>) -> Option<Request<'a>>
+    ensures { ReadsAs (prove_given (givens_are givens.entry)) result }
+{
+    if !no_prelude(givens.cycles) || !statements_alone(givens.points) {
+        return None;
+    }
+    let file = once(givens.file)?;
+    let top = once(givens.top)?;
+    let clock = once(givens.clock)?;
+    let prefix = once(givens.out)?;
+    let effort = effort_of(givens.effort)?;
+    Some(Request::Prove {
+        file,
+        top,
+        clock,
+        prefix,
+        effort,
+    })
+}
+
+// The words after `prove`.
+fn prove_of(words: &[String]) -> Option<Request<'_>>
+    ensures { ReadsAs (prove_of (texts words.now)) result }
+{
+    prove_given(givens_of(words)?)
+}
+
 /// The command that the words name.
 pub fn request_of(words: &[String]) -> Option<Request<'_>>
     ensures { ReadsAs (command_of (texts words.now)) result }
@@ -39,6 +68,7 @@ pub fn request_of(words: &[String]) -> Option<Request<'_>>
     let (name, rest) = words.split_first()?;
     match name.as_str() {
         "check" => check_of(rest),
+        "prove" => prove_of(rest),
         _ => None,
     }
 }

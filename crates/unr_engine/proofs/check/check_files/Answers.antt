@@ -1,10 +1,12 @@
-use Rattle.std.proofs.Common.{[], ◌∷◌, refl, ap, ◌∙◌}
+use Rattle.std.proofs.Common.{[], ◌∷◌, take, refl, ap, ◌∙◌}
+use Rattle.unr_io.specs.Sink.{appended}
 use Rattle.std.proofs.lemmas.Result.{err_from_is_err_and}
 use Rattle.unr_engine.specs.declared.stop.Refusal.TheVariants as refusal
 use Rattle.unr_engine.specs.Ends.{why_of, Out_of_memory, Not_taken}
+use Rattle.unr_engine.specs.Content.{check_work}
 use Rattle.unr_engine.specs.Words.{Check_files}
-use Rattle.unr_engine.proofs.Checks.{file_loaded, both_loaded, text_refused, cert_refused, check_refused, answered}
-use Rattle.unr_engine.proofs.Runs.{begun, fetch_stopped, refused, no_memory, delivered, handed_on}
+use Rattle.unr_engine.proofs.Checks.{file_loaded, both_loaded, text_refused, cert_refused, check_refused, answered, report_of}
+use Rattle.unr_engine.proofs.Runs.{begun, fetch_stopped, refused, no_memory, delivery_stopped, delivered, handed_on}
 use Rattle.unr_engine.proofs.check.check_files.Goals as goal
 
 pub returns-in_err-text : goal.returns-in_err-text
@@ -49,8 +51,23 @@ returns-in_err-report g c =
     handed_on command c.from_residual-in_err-report.result p.0 Out_of_memory _ _ _ _ p.1 (ap why_of p.2)
     (no_memory command (c.in_ok-text.text.items ∷ c.in_ok-spelling.spelling.items ∷ []) (g.D.Desk.state c.args.desk.now) (g.D.Desk.state c.fetch-2.new.desk) (g.O.Sink.state c.args.out.now) (both_loaded c.args.file.now c.args.cert.now c.in_ok-text.text c.in_ok-spelling.spelling (g.D.Desk.state c.args.desk.now) (g.D.Desk.state c.fetch.new.desk) (g.D.Desk.state c.fetch-2.new.desk) c.in_ok-text.ensures c.in_ok-spelling.ensures))
 
+pub returns-in_err-deliver : goal.returns-in_err-deliver
+returns-in_err-deliver g c =
+    let command = Check_files c.args.file.now c.args.cert.now in
+    let p = err_from_is_err_and c.from_residual-in_err-deliver.result c.from_residual-in_err-deliver.ensures.1 in
+    let stopped = c.in_err-deliver.ensures in
+    let same = report_of c.in_ok-claims.claims c.as_slice.result.now c.deref-3.result.now c.as_slice.ensures (c.deref-3.ensures.value ∙ c.in_ok-report.ensures) in
+    handed_on command c.from_residual-in_err-deliver.result p.0 (why_of c.in_err-deliver.field-0.0) _ _ _ _ p.1 (ap why_of p.2)
+    (delivery_stopped command (c.in_ok-text.text.items ∷ c.in_ok-spelling.spelling.items ∷ []) (check_work c.in_ok-claims.claims) (why_of c.in_err-deliver.field-0.0) (g.D.Desk.state c.args.desk.now) (g.D.Desk.state c.fetch-2.new.desk) (g.O.Sink.state c.args.out.now) (g.O.Sink.state c.deliver.new.out)
+    (both_loaded c.args.file.now c.args.cert.now c.in_ok-text.text c.in_ok-spelling.spelling (g.D.Desk.state c.args.desk.now) (g.D.Desk.state c.fetch.new.desk) (g.D.Desk.state c.fetch-2.new.desk) c.in_ok-text.ensures c.in_ok-spelling.ensures)
+    (answered c.args.file.now c.args.cert.now c.in_ok-text.text.items c.deref.result.now c.in_ok-spelling.spelling.items c.deref-2.result.now c.in_ok-tree.tree c.in_ok-certificate.certificate c.in_ok-claims.claims c.deref.ensures.value c.deref-2.ensures.value c.in_ok-tree.ensures c.in_ok-certificate.ensures.answers c.in_ok-claims.ensures.judged c.in_ok-claims.ensures.true_claims)
+    stopped.0.0 (stopped.0.1 ∙ ap (λ text. appended (g.O.Sink.state c.args.out.now).written (take stopped.0.0 text)) same) stopped.1)
+
 pub returns : goal.returns
 returns g c =
     let command = Check_files c.args.file.now c.args.cert.now in
-    delivered command (c.in_ok-text.text.items ∷ c.in_ok-spelling.spelling.items ∷ []) c.deref-3.result.now c.deliver.result (g.D.Desk.state c.args.desk.now) (g.D.Desk.state c.fetch-2.new.desk) (g.O.Sink.state c.args.out.now) (g.O.Sink.state c.deliver.new.out) (both_loaded c.args.file.now c.args.cert.now c.in_ok-text.text c.in_ok-spelling.spelling (g.D.Desk.state c.args.desk.now) (g.D.Desk.state c.fetch.new.desk) (g.D.Desk.state c.fetch-2.new.desk) c.in_ok-text.ensures c.in_ok-spelling.ensures)
-    (answered c.args.file.now c.args.cert.now c.in_ok-text.text.items c.deref.result.now c.in_ok-spelling.spelling.items c.deref-2.result.now c.in_ok-tree.tree c.in_ok-certificate.certificate c.in_ok-claims.claims c.as_slice.result.now c.deref-3.result.now c.deref.ensures.value c.deref-2.ensures.value c.in_ok-tree.ensures c.in_ok-certificate.ensures.answers c.in_ok-claims.ensures.judged c.in_ok-claims.ensures.true_claims c.as_slice.ensures (c.deref-3.ensures.value ∙ c.in_ok-report.ensures)) c.deliver.ensures
+    let same = report_of c.in_ok-claims.claims c.as_slice.result.now c.deref-3.result.now c.as_slice.ensures (c.deref-3.ensures.value ∙ c.in_ok-report.ensures) in
+    delivered command (c.in_ok-text.text.items ∷ c.in_ok-spelling.spelling.items ∷ []) (check_work c.in_ok-claims.claims) (g.D.Desk.state c.args.desk.now) (g.D.Desk.state c.fetch-2.new.desk) (g.O.Sink.state c.args.out.now) (g.O.Sink.state c.deliver.new.out)
+    (both_loaded c.args.file.now c.args.cert.now c.in_ok-text.text c.in_ok-spelling.spelling (g.D.Desk.state c.args.desk.now) (g.D.Desk.state c.fetch.new.desk) (g.D.Desk.state c.fetch-2.new.desk) c.in_ok-text.ensures c.in_ok-spelling.ensures)
+    (answered c.args.file.now c.args.cert.now c.in_ok-text.text.items c.deref.result.now c.in_ok-spelling.spelling.items c.deref-2.result.now c.in_ok-tree.tree c.in_ok-certificate.certificate c.in_ok-claims.claims c.deref.ensures.value c.deref-2.ensures.value c.in_ok-tree.ensures c.in_ok-certificate.ensures.answers c.in_ok-claims.ensures.judged c.in_ok-claims.ensures.true_claims)
+    (c.in_ok-deliver.ensures ∙ ap (λ text. appended (g.O.Sink.state c.args.out.now).written text) same)
