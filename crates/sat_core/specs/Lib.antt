@@ -3,9 +3,9 @@ pub mod Assigned
 pub mod Calls
 pub mod Closing
 pub mod Fresh
-pub mod Occurring
 pub mod Open
 pub mod Propagation
 pub mod Search
 pub mod Solvers
 pub mod Trailed
+pub mod Watching

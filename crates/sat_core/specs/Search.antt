@@ -3,9 +3,8 @@ use Rattle.std.specs.Prelude.{◌≡◌, ℕ, ◌+◌, ◌*◌, ◌-◌, ◌<◌
 use Rattle.cnf_core.specs.Literal.{Literal, negated}
 use Rattle.sat_core.specs.Closing.{IsShown}
 use Rattle.sat_core.specs.Fresh.{HasNoRepeats, IsNew, IsSettled}
-use Rattle.sat_core.specs.Occurring.{AreListed}
-use Rattle.sat_core.specs.Propagation.{AwaitBelow}
-use Rattle.sat_core.specs.Trailed.{Good, is_satisfied}
+use Rattle.sat_core.specs.Trailed.{Trailed, Good, is_satisfied}
+use Rattle.sat_core.specs.Watching.{Watching, AreListed, AreWatched, AreKept, AreWaiting}
 use Rattle.sat_core.specs.declared.analysis.Shown.{Shown}
 use Rattle.sat_core.specs.declared.search.Search.{Search}
 use Rattle.sat_core.specs.declared.search.Step.{Step}
@@ -25,16 +24,21 @@ vars_in s = s.trail.vars
 abbrev pub room_in : Search → ℕ
 room_in s = 2 * s.trail.vars + 2 - length s.trail.falses
 
--- the trail is good and begins with the assumptions, the first `known` clauses are listed, and what they leave is propagated up to the place `done`
-pub record Searched (assumptions : List Literal) (s : Search) : Type 0 where
-  pub good : Good s.clauses s.trail
-  pub long : length assumptions ≤ length s.trail.falses
-  pub settled : IsSettled s.clauses s.trail (length assumptions)
-  pub assumed : take (length assumptions) s.trail.falses ≡ map negated assumptions
-  pub known : s.known ≤ length s.clauses
-  pub listed : AreListed s.clauses s.known s.occurs.cells
-  pub done : s.done ≤ length s.trail.falses
-  pub awaits : AwaitBelow s.known s.done s.trail.falses s.clauses
+-- the trail is good and begins with the assumptions, the first clauses are watched, and what they leave is propagated up to the place `done`
+pub record IsSearched (clauses : List (List Literal)) (t : Trailed) (w : Watching) (done : ℕ) (assumptions : List Literal) : Type 0 where
+  pub good : Good clauses t
+  pub long : length assumptions ≤ length t.falses
+  pub settled : IsSettled clauses t (length assumptions)
+  pub assumed : take (length assumptions) t.falses ≡ map negated assumptions
+  pub known : length w.pairs ≤ length clauses
+  pub listed : AreListed clauses w
+  pub within : done ≤ length t.falses
+  pub watched : AreWatched clauses w.pairs (take done t.falses) t.falses
+  pub kept : AreKept clauses w.pairs t (length assumptions)
+  pub waiting : AreWaiting clauses (length w.pairs) t (length assumptions)
+
+abbrev pub Searched : List Literal → Search → Type 0
+Searched assumptions s = IsSearched s.clauses s.trail s.watches s.done assumptions
 
 -- one more clause, which the others show, and which is none of them
 pub record Learns (assumptions : List Literal) (was is : Search) (id : ℕ) (shown : Shown) : Type 0 where

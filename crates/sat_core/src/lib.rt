@@ -4,7 +4,6 @@
 mod analysis;
 mod answer;
 mod assignment;
-mod occurrences;
 mod order;
 mod pace;
 mod pick;
@@ -13,6 +12,7 @@ mod search;
 mod solver;
 mod trail;
 mod values;
+mod watches;
 
 pub use answer::{Answer, SolveError};
 pub use solver::{Solver, law_empty_core_refutes};

@@ -1,15 +1,16 @@
-//! Unit propagation.
-ghost use Rattle.std.specs.Prelude.{◌≡◌, ℕ, ◌+◌, ◌*◌, ◌<◌, ◌≤◌, [], All, length, IfOk, OnOk, IfNone, IfSome, MatchOption};
-ghost use Rattle.cnf_core.specs.Literal.{HaveVarsUpTo};
-ghost use Rattle.cnf_core.specs.Lrat.{open_lits};
-ghost use Rattle.sat_core.specs.Occurring.{AreListed, listed_cells};
-ghost use Rattle.sat_core.specs.Open.{IsOpen};
-ghost use Rattle.sat_core.specs.Propagation.{Propagates, AwaitBelow};
-ghost use Rattle.sat_core.specs.Trailed.{Good, IsConflict, IsQuiet, clause_in};
+//! Unit propagation: a clause is looked at where a watched literal of it became false.
+ghost use Rattle.std.specs.Prelude.{◌≡◌, ℕ, true, false, ◌+◌, ◌*◌, ◌<◌, ◌≤◌, [], ◌∷◌, ◌++◌, All, length, take, IfOk, OnOk, IfNone, IfSome, MatchOption};
+ghost use Rattle.cnf_core.specs.Literal.{HaveVarsUpTo, same_literal};
+ghost use Rattle.cnf_core.specs.Lrat.{is_false, open_lits};
+ghost use Rattle.sat_core.specs.Assigned.{place_of};
+ghost use Rattle.sat_core.specs.Open.{IsOpen, IsSettlement, IsLook, IsNext};
+ghost use Rattle.sat_core.specs.Propagation.{Propagates};
+ghost use Rattle.sat_core.specs.Trailed.{Good, IsConflict, clause_in};
+ghost use Rattle.sat_core.specs.Watching.{AreOpen, IsOff, IsOneOf, StandsFrom, AreListed, AreWatched, Rewatches, IsEntered, ends_of, listed, list_at, pair_at};
 
-use crate::occurrences::Occurrences;
 use crate::order::Order;
 use crate::trail::Trail;
+use crate::watches::{Pair, Watches};
 use cnf_core::{Clauses, Lit, Memory};
 
 /// What of a clause isn't false.
@@ -17,19 +18,22 @@ use cnf_core::{Clauses, Lit, Memory};
 pub enum Open {
     Nothing,
     One(Lit),
-    More,
+    Two(Pair),
 }
 
-/// How many literals of a clause aren't false.
+/// How many literals of a clause aren't false, and the first two of them.
 pub fn scan(trail: &Trail, clause: &[Lit]) -> Open
     requires { All (λ l. l.variable ≤ trail.now.vars) clause.now }
-    ensures { IsOpen (open_lits trail.now.falses clause.now) result }
+    ensures { IsOpen trail.now.falses clause.now result }
 {
     let mut only: Option<Lit> = None;
     for literal in clause {
         if !trail.is_false(*literal) {
-            if let Some(_) = only {
-                return Open::More;
+            if let Some(first) = only {
+                return Open::Two(Pair {
+                    first,
+                    second: *literal,
+                });
             }
             only = Some(*literal);
         }
@@ -40,137 +44,293 @@ pub fn scan(trail: &Trail, clause: &[Lit]) -> Open
     }
 }
 
-/// Makes the one literal true that the clause at a place leaves, if it leaves one, or gives the place of a falsified clause.
-fn settle(clauses: &Clauses, trail: &mut Trail, at: usize) -> Result<Option<usize>, Memory>
+/// What was made of a clause.
+#[derive(Clone, Copy)]
+pub enum Settled {
+    /// All its literals are false.
+    Falsified,
+    /// One is true.
+    Satisfied,
+    /// These aren't false.
+    Left(Pair),
+}
+
+/// Makes the one literal true that the clause at a place leaves, if it leaves one.
+fn settle(clauses: &Clauses, trail: &mut Trail, at: usize) -> Result<Settled, Memory>
     requires vars { HaveVarsUpTo trail.old.vars clauses.now }
     requires good { Good clauses.now trail.old }
     requires there { at < length clauses.now }
     ensures propagates { Propagates clauses.now trail.old trail.new }
-    ensures found { IfOk result (λ o. MatchOption o
-        (IsQuiet trail.new.falses (clause_in clauses.now at))
-        (λ k. IsConflict clauses.now trail.new.falses k)) }
+    ensures settled { IfOk result (λ s. IsSettlement clauses.now trail.new.falses at s) }
 {
     match scan(trail, clauses.get(at)) {
-        Open::Nothing => Ok(Some(at)),
+        Open::Nothing => Ok(Settled::Falsified),
+        Open::Two(pair) => Ok(Settled::Left(pair)),
         Open::One(literal) => {
             if trail.is_false(literal.negated()) {
-                return Ok(None);
+                return Ok(Settled::Satisfied);
             }
             trail.push(literal.negated(), Some(at))?;
-            Ok(None)
+            Ok(Settled::Satisfied)
         }
-        Open::More => Ok(None),
     }
 }
 
-/// Lists the literals of a clause.
-fn list_clause(
-    clauses: &Clauses,
-    occurs: &mut Occurrences,
-    order: &mut Order,
-    at: usize,
-) -> Result<(), Memory>
-    requires vars { HaveVarsUpTo order.old.vars clauses.now }
-    requires places { occurs.old.places ≡ 2 * order.old.vars + 2 }
-    requires there { at < length clauses.now }
-    ensures vars { order.new.vars ≡ order.old.vars }
-    ensures places { occurs.new.places ≡ occurs.old.places }
-    ensures cells { OnOk result (occurs.new.cells
-        ≡ listed_cells occurs.old.cells at (clause_in clauses.now at)) }
+/// Whether two literals are the same.
+fn is_same(left: Lit, right: Lit) -> bool
+    ensures { result ≡ same_literal left right }
 {
-    for literal in clauses.get(at) {
-        occurs.add(*literal, at)?;
+    left.variable() == right.variable() && left.is_positive() == right.is_positive()
+}
+
+/// The last two literals of a clause that has some.
+fn ends(clause: &[Lit]) -> Pair
+    requires { 0 < length clause.now }
+    ensures { result ≡ ends_of clause.now }
+{
+    let last = clause.len() - 1;
+    Pair {
+        first: clause[last.saturating_sub(1)],
+        second: clause[last],
+    }
+}
+
+/// Notes the variables of a clause.
+fn note_all(order: &mut Order, clause: &[Lit])
+    requires { All (λ l. l.variable ≤ order.old.vars) clause.now }
+    ensures { order.new.vars ≡ order.old.vars }
+{
+    for literal in clause {
         order.note(literal.variable());
     }
-    Ok(())
 }
 
-/// Lists the clauses from `known` on, and makes true what they leave, or gives the place of a falsified clause.
+/// Watches the next clause, and makes true what it leaves. False where it is falsified.
+fn enter_next(
+    clauses: &Clauses,
+    watches: &mut Watches,
+    trail: &mut Trail,
+    at: usize,
+) -> Result<bool, Memory>
+    requires vars { HaveVarsUpTo trail.old.vars clauses.now }
+    requires good { Good clauses.now trail.old }
+    requires places { length watches.old.lists ≡ 2 * trail.old.vars + 2 }
+    requires next { at ≡ length watches.old.pairs }
+    requires there { at < length clauses.now }
+    ensures propagates { Propagates clauses.now trail.old trail.new }
+    ensures places { length watches.new.lists ≡ length watches.old.lists }
+    ensures entered { OnOk result (IsEntered clauses.now trail.old.falses trail.new.falses watches.old watches.new) }
+    ensures next { IfOk result (λ b. IsNext clauses.now trail.new.falses at watches.new.pairs b) }
+{
+    match settle(clauses, trail, at)? {
+        Settled::Falsified => Ok(false),
+        Settled::Satisfied => {
+            watches.add(ends(clauses.get(at)))?;
+            Ok(true)
+        }
+        Settled::Left(pair) => {
+            watches.add(pair)?;
+            Ok(true)
+        }
+    }
+}
+
+/// Watches the clauses that aren't watched yet, and makes true what they leave, or gives the place of a falsified clause.
 pub fn enter(
     clauses: &Clauses,
-    occurs: &mut Occurrences,
+    watches: &mut Watches,
     order: &mut Order,
     trail: &mut Trail,
-    known: usize,
 ) -> Result<Option<usize>, Memory>
     requires vars { HaveVarsUpTo trail.old.vars clauses.now }
-    requires same_vars { order.old.vars ≡ trail.old.vars }
-    requires places { occurs.old.places ≡ 2 * trail.old.vars + 2 }
     requires good { Good clauses.now trail.old }
-    requires known { known ≤ length clauses.now }
-    requires listed { AreListed clauses.now known occurs.old.cells }
+    requires places { length watches.old.lists ≡ 2 * trail.old.vars + 2 }
+    requires same_vars { order.old.vars ≡ trail.old.vars }
+    requires known { length watches.old.pairs ≤ length clauses.now }
     ensures same_vars { order.new.vars ≡ order.old.vars }
-    ensures places { occurs.new.places ≡ occurs.old.places }
     ensures propagates { Propagates clauses.now trail.old trail.new }
-    ensures kept { OnOk result (AreListed clauses.now known occurs.new.cells) }
-    ensures listed { IfOk result (λ o. IfNone o
-        (AreListed clauses.now (length clauses.now) occurs.new.cells)) }
-    ensures conflict { IfOk result (λ o. IfSome o (λ k. IsConflict clauses.now trail.new.falses k)) }
-    ensures awaits { IfOk result (λ o. IfNone o
-        ((done : ℕ) → done ≤ length trail.old.falses
-        → AwaitBelow known done trail.old.falses clauses.now
-        → AwaitBelow (length clauses.now) done trail.new.falses clauses.now)) }
+    ensures places { length watches.new.lists ≡ length watches.old.lists }
+    ensures entered { OnOk result (IsEntered clauses.now trail.old.falses trail.new.falses watches.old watches.new) }
+    ensures found { IfOk result (λ o. MatchOption o
+        (length watches.new.pairs ≡ length clauses.now)
+        (λ k. IsConflict clauses.now trail.new.falses k)) }
 {
-    for at in known..clauses.len() {
-        list_clause(clauses, occurs, order, at)?;
-        if let Some(conflict) = settle(clauses, trail, at)? {
-            return Ok(Some(conflict));
+    for at in watches.len()..clauses.len() {
+        note_all(order, clauses.get(at));
+        if !enter_next(clauses, watches, trail, at)? {
+            return Ok(Some(at));
         }
     }
     Ok(None)
 }
 
-/// Makes true what is left by the clauses that have the literal at a place of the trail, or gives the place of a falsified clause.
+/// What became of a clause in the list of a literal that is false.
+#[derive(Clone, Copy)]
+pub enum Look {
+    /// It has a true literal.
+    Kept,
+    /// The literal isn't watched.
+    Gone,
+    /// All its literals are false.
+    Ended,
+}
+
+/// Watches two literals of a clause that aren't false, the other watched one among them if it isn't.
+fn turn(
+    clauses: &Clauses,
+    watches: &mut Watches,
+    trail: &Trail,
+    literal: Lit,
+    clause: usize,
+    other: Lit,
+    left: Pair,
+) -> Result<(), Memory>
+    requires vars { HaveVarsUpTo trail.now.vars clauses.now }
+    requires places { length watches.old.lists ≡ 2 * trail.now.vars + 2 }
+    requires known { clause < length watches.old.pairs }
+    requires there { clause < length clauses.now }
+    requires left { AreOpen trail.now.falses (clause_in clauses.now clause) left }
+    requires literal { is_false trail.now.falses literal ≡ true }
+    requires other_in { is_false (clause_in clauses.now clause) other ≡ true }
+    requires other_listed { StandsFrom 0 clause (list_at watches.old.lists (place_of other)) }
+    ensures places { length watches.new.lists ≡ length watches.old.lists }
+    ensures rewatches { OnOk result (Rewatches clauses.now trail.now.falses watches.old watches.new) }
+    ensures same_list { OnOk result (list_at watches.new.lists (place_of literal)
+        ≡ list_at watches.old.lists (place_of literal)) }
+    ensures off { OnOk result (IsOff (place_of literal) (pair_at watches.new.pairs clause)) }
+{
+    if is_same(left.first, other) {
+        watches.list(left.second, clause)?;
+        watches.set(clause, left);
+    } else if trail.is_false(other) {
+        watches.list(left.first, clause)?;
+        watches.list(left.second, clause)?;
+        watches.set(clause, left);
+    } else {
+        watches.list(left.first, clause)?;
+        watches.set(
+            clause,
+            Pair {
+                first: left.first,
+                second: other,
+            },
+        );
+    }
+    Ok(())
+}
+
+/// The watched literal beside this one. None where this one isn't watched.
+fn other_of(pair: Pair, literal: Lit) -> Option<Lit>
+    ensures { MatchOption result (IsOff (place_of literal) pair) (λ l. IsOneOf pair l) }
+{
+    if is_same(pair.first, literal) {
+        return Some(pair.second);
+    }
+    if is_same(pair.second, literal) {
+        return Some(pair.first);
+    }
+    None
+}
+
+/// Looks at a clause in the list of a literal that is false.
+fn look_at(
+    clauses: &Clauses,
+    watches: &mut Watches,
+    trail: &mut Trail,
+    literal: Lit,
+    clause: usize,
+) -> Result<Look, Memory>
+    requires vars { HaveVarsUpTo trail.old.vars clauses.now }
+    requires good { Good clauses.now trail.old }
+    requires places { length watches.old.lists ≡ 2 * trail.old.vars + 2 }
+    requires listed { AreListed clauses.now watches.old }
+    requires literal { is_false trail.old.falses literal ≡ true }
+    ensures propagates { Propagates clauses.now trail.old trail.new }
+    ensures places { length watches.new.lists ≡ length watches.old.lists }
+    ensures rewatches { OnOk result (Rewatches clauses.now trail.new.falses watches.old watches.new) }
+    ensures same_list { OnOk result (list_at watches.new.lists (place_of literal)
+        ≡ list_at watches.old.lists (place_of literal)) }
+    ensures look { IfOk result (λ r. IsLook clauses.now trail.new.falses (place_of literal) watches.new clause r) }
+{
+    if clause >= watches.len() || clause >= clauses.len() {
+        return Ok(Look::Gone);
+    }
+    let Some(other) = other_of(watches.pair(clause), literal) else {
+        return Ok(Look::Gone);
+    };
+    if trail.is_false(other.negated()) {
+        return Ok(Look::Kept);
+    }
+    match settle(clauses, trail, clause)? {
+        Settled::Falsified => Ok(Look::Ended),
+        Settled::Satisfied => Ok(Look::Kept),
+        Settled::Left(left) => {
+            turn(clauses, watches, trail, literal, clause, other, left)?;
+            Ok(Look::Gone)
+        }
+    }
+}
+
+/// Makes true what is left by the clauses that watch the literal at a place of the trail, or gives the place of a falsified clause.
 fn visit(
     clauses: &Clauses,
-    occurs: &Occurrences,
+    watches: &mut Watches,
     trail: &mut Trail,
     done: usize,
 ) -> Result<Option<usize>, Memory>
     requires vars { HaveVarsUpTo trail.old.vars clauses.now }
-    requires places { occurs.now.places ≡ 2 * trail.old.vars + 2 }
     requires good { Good clauses.now trail.old }
+    requires places { length watches.old.lists ≡ 2 * trail.old.vars + 2 }
     requires there { done < length trail.old.falses }
-    requires listed { AreListed clauses.now (length clauses.now) occurs.now.cells }
-    requires awaits { AwaitBelow (length clauses.now) done trail.old.falses clauses.now }
+    requires listed { AreListed clauses.now watches.old }
+    requires watched { AreWatched clauses.now watches.old.pairs (take done trail.old.falses) trail.old.falses }
     ensures propagates { Propagates clauses.now trail.old trail.new }
+    ensures places { length watches.new.lists ≡ length watches.old.lists }
+    ensures rewatches { OnOk result (Rewatches clauses.now trail.old.falses watches.old watches.new) }
+    ensures watched { OnOk result (AreWatched clauses.now watches.new.pairs (take done trail.new.falses) trail.new.falses) }
     ensures found { IfOk result (λ o. MatchOption o
-        (AwaitBelow (length clauses.now) (done + 1) trail.new.falses clauses.now)
+        (AreWatched clauses.now watches.new.pairs (take (done + 1) trail.new.falses) trail.new.falses)
         (λ k. IsConflict clauses.now trail.new.falses k)) }
 {
-    let mut cell = occurs.latest(trail.falsified(done));
-    while cell > 0 {
-        let occurrence = occurs.cell(cell - 1);
-        if let Some(conflict) = settle(clauses, trail, occurrence.clause)? {
-            return Ok(Some(conflict));
+    let literal = trail.falsified(done);
+    let mut at = 0;
+    while at < watches.count(literal) {
+        let clause = watches.clause(literal, at);
+        match look_at(clauses, watches, trail, literal, clause)? {
+            Look::Kept => at += 1,
+            Look::Gone => watches.unlist(literal, at),
+            Look::Ended => return Ok(Some(clause)),
         }
-        cell = occurrence.before;
     }
     Ok(None)
 }
 
 /// Propagates the literals from a place of the trail on to the end, or to a falsified clause, whose place it gives.
 ///
-/// It takes time in the occurrences of the literals that it propagates, and in the literals of their clauses.
+/// It takes time in the clauses that watch the literals that it propagates.
 pub fn propagate(
     clauses: &Clauses,
-    occurs: &Occurrences,
+    watches: &mut Watches,
     trail: &mut Trail,
     from: usize,
 ) -> Result<Option<usize>, Memory>
     requires vars { HaveVarsUpTo trail.old.vars clauses.now }
-    requires places { occurs.now.places ≡ 2 * trail.old.vars + 2 }
     requires good { Good clauses.now trail.old }
+    requires places { length watches.old.lists ≡ 2 * trail.old.vars + 2 }
     requires there { from ≤ length trail.old.falses }
-    requires listed { AreListed clauses.now (length clauses.now) occurs.now.cells }
-    requires awaits { AwaitBelow (length clauses.now) from trail.old.falses clauses.now }
+    requires listed { AreListed clauses.now watches.old }
+    requires watched { AreWatched clauses.now watches.old.pairs (take from trail.old.falses) trail.old.falses }
     ensures propagates { Propagates clauses.now trail.old trail.new }
-    ensures found { IfOk result (λ o. MatchOption o (All (IsQuiet trail.new.falses) clauses.now)
+    ensures places { length watches.new.lists ≡ length watches.old.lists }
+    ensures rewatches { OnOk result (Rewatches clauses.now trail.old.falses watches.old watches.new) }
+    ensures watched { OnOk result (AreWatched clauses.now watches.new.pairs (take from trail.new.falses) trail.new.falses) }
+    ensures found { IfOk result (λ o. MatchOption o
+        (AreWatched clauses.now watches.new.pairs trail.new.falses trail.new.falses)
         (λ k. IsConflict clauses.now trail.new.falses k)) }
 {
     let mut done = from;
     while done < trail.len() {
-        if let Some(conflict) = visit(clauses, occurs, trail, done)? {
+        if let Some(conflict) = visit(clauses, watches, trail, done)? {
             return Ok(Some(conflict));
         }
         done += 1;

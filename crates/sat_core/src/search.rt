@@ -2,17 +2,18 @@
 ghost use Rattle.std.specs.Prelude.{◌≡◌, ℕ, true, ◌+◌, ◌*◌, ◌<◌, ◌≤◌, [], ◌∷◌, ◌++◌, List, All, length, map, IfOk, OnOk, OnErr, MatchOption};
 ghost use Rattle.cnf_core.specs.Literal.{Literal, HaveVarsUpTo, negated};
 ghost use Rattle.cnf_core.specs.Lrat.{HasGoodVars};
+ghost use Rattle.sat_core.specs.Propagation.{IsComplete};
 ghost use Rattle.sat_core.specs.Trailed.{Good, IsQuiet, IsConflict, IsFree, IsLastDecision, AreImplied, is_satisfied};
 
 use crate::analysis::{Shown, explain, explain_all, last_decision, place_to_go_on};
 use crate::assignment::Assignment;
-use crate::occurrences::Occurrences;
 use crate::order::Order;
 use crate::pace::Pace;
 use crate::pick::pick;
 use crate::propagate::{enter, propagate};
 use crate::trail::Trail;
 use crate::values::values;
+use crate::watches::Watches;
 use cnf_core::{Clauses, Lit, Memory};
 use sqlite_items::Items;
 use std::alloc::Global;
@@ -25,16 +26,15 @@ pub struct Search {
     added: usize,
     trail: Trail,
     seen: Assignment,
-    /// The occurrences of literals in the first `known` clauses.
-    occurs: Occurrences,
-    known: usize,
+    /// The watched literals of the first clauses.
+    watches: Watches,
     /// How many literals of the trail are propagated.
     done: usize,
     order: Order,
     pace: Pace,
     ghost same_vars: { seen.vars ≡ trail.vars },
     ghost ordered_vars: { order.vars ≡ trail.vars },
-    ghost all_places: { occurs.places ≡ 2 * trail.vars + 2 },
+    ghost all_places: { length watches.lists ≡ 2 * trail.vars + 2 },
     ghost within: { added ≤ length clauses },
     ghost good_vars: { HaveVarsUpTo trail.vars clauses },
 }
@@ -119,8 +119,7 @@ impl Search {
             added: 0,
             trail: Trail::make(alloc, vars)?,
             seen: Assignment::make(alloc, vars)?,
-            occurs: Occurrences::make(alloc, vars)?,
-            known: 0,
+            watches: Watches::make(alloc, vars)?,
             done: 0,
             order: Order::make(alloc, vars)?,
             pace: Pace::new(),
@@ -150,8 +149,7 @@ impl Search {
         ensures begun { OnOk result (Searched assumptions.now self.new) }
     {
         self.clauses.truncate(self.added);
-        self.occurs.clear();
-        self.known = 0;
+        self.watches.clear();
         self.done = 0;
         self.order.restart();
         self.trail.cut(0);
@@ -161,7 +159,7 @@ impl Search {
 
     fn decide(&mut self, assumptions: &[Lit]) -> Result<Step, Memory>
         requires searched { Searched assumptions.now self.old }
-        requires quiet { All (IsQuiet self.old.trail.falses) self.old.clauses }
+        requires complete { IsComplete self.old.clauses self.old.trail.falses self.old.watches }
         ensures vars { vars_in self.new ≡ vars_in self.old }
         ensures added { added_in self.new ≡ added_in self.old }
         ensures searched { OnOk result (Searched assumptions.now self.new) }
@@ -244,21 +242,19 @@ impl Search {
         ensures searched { OnOk result (Searched assumptions.now self.new) }
         ensures longer { length self.old.trail.falses ≤ length self.new.trail.falses }
         ensures found { IfOk result (λ o. MatchOption o
-            (All (IsQuiet self.new.trail.falses) self.new.clauses)
+            (IsComplete self.new.clauses self.new.trail.falses self.new.watches)
             (λ k. IsConflict self.new.clauses self.new.trail.falses k)) }
     {
         let entered = enter(
             &self.clauses,
-            &mut self.occurs,
+            &mut self.watches,
             &mut self.order,
             &mut self.trail,
-            self.known,
         )?;
         if let Some(conflict) = entered {
             return Ok(Some(conflict));
         }
-        self.known = self.clauses.len();
-        let found = propagate(&self.clauses, &self.occurs, &mut self.trail, self.done)?;
+        let found = propagate(&self.clauses, &mut self.watches, &mut self.trail, self.done)?;
         if let Some(conflict) = found {
             return Ok(Some(conflict));
         }

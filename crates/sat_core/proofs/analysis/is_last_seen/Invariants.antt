@@ -1,4 +1,4 @@
-use Rattle.std.proofs.Common.{◌≡◌, ◌<◌, ◌≤◌, length}
+use Rattle.std.proofs.Common.{◌<◌, ◌≤◌, length}
 use Rattle.sat_core.specs.Trailed.{seen_from}
 use Rattle.sat_core.proofs.analysis.is_last_seen.Given as goal
 

@@ -1,7 +1,6 @@
 use Rattle.std.proofs.Common.{◌<◌, ◌≤◌, length, map, arith}
 use Rattle.std.proofs.lemmas.List.{take_all, length-map}
 use Rattle.cnf_core.specs.Literal.{negated}
-use Rattle.sat_core.proofs.Cells.{AreListed-none}
 use Rattle.sat_core.proofs.search.Search.begin.Goals as goal
 
 pub returns-clause-begun : goal.returns-clause-begun
@@ -15,8 +14,14 @@ returns-clause-begun c =
           let inside : d < length (map negated c.args.assumptions.now) = rw c.in_ok-assume.ensures.assumed at h in
           absurd (omega arith);
       assumed = rw c.in_ok-assume.ensures.assumed (take_all (length c.args.assumptions.now) (map negated c.args.assumptions.now) all);
-      known = omega arith;
-      listed = rw c.clear.ensures (AreListed-none c.truncate.new.self);
-      done = omega arith;
-      awaits = λ k lt. absurd (omega (arith, lt));
+      known = rw c.clear.ensures.pairs (omega arith);
+      listed = rw c.clear.ensures.pairs (λ k lt. absurd (omega (arith, lt)));
+      within = omega arith;
+      watched = rw c.clear.ensures.pairs (λ k lt. absurd (omega (arith, lt)));
+      kept = λ d low h e.
+          let inside : d < length (map negated c.args.assumptions.now) = rw c.in_ok-assume.ensures.assumed at h in
+          absurd (omega arith);
+      waiting = λ d low h e.
+          let inside : d < length (map negated c.args.assumptions.now) = rw c.in_ok-assume.ensures.assumed at h in
+          absurd (omega arith);
     }
