@@ -2,7 +2,11 @@
 
 ghost use Rattle.std.specs.Prelude.{◌≡◌, ◌↔◌, ◌<◌, ◌≤◌, ◌^◌, [], length, map, All, IsTrue, IfOk};
 ghost use Rattle.aig_core.specs.Graph.{node_count};
+ghost use Rattle.bit_system.specs.Machine.{IsMachine};
 ghost use Rattle.design_core.specs.Verdicts.{HitAt};
+ghost use Rattle.plain_blast.specs.Plain.{plain_of};
+ghost use Rattle.plain_blast.specs.Bridge.{Bridge};
+ghost use Rattle.source_check.specs.Built.{AreDistinct};
 ghost use Rattle.source_check.specs.Points.{IsSiteBelow, site_of, hit_by};
 ghost use Rattle.source_check.specs.Ladders.{state_names};
 ghost use Rattle.source_check.specs.Judging.{IsRefusal, JudgesLadder, JudgesStimulus, JudgesBody, JudgesClaim, verdict_of, told, JudgesClaims, Judges, AreTrue};
@@ -250,6 +254,47 @@ fn site(test: &Test) -> u32
     }
 }
 
+/// The system of a legal design, with a hit literal for each of the points.
+fn system_for(alloc: Global, legal: &Legal, points: &[Point]) -> Result<System, AllocError>
+    requires { legal.now.order ≡ [] }
+    ensures exact { IfOk result (λ s. s ≡ plain_of legal.now.design [] (map (λ p. site_of p.test) points.now)) }
+    ensures bridge { IfOk result (λ s. Bridge legal.now.design (map (λ p. site_of p.test) points.now) s) }
+    ensures valid { IfOk result IsMachine }
+{
+    let sites = sites_of(alloc, points)?;
+    let system = translate(alloc, legal, &sites)?;
+    // Shows that the parts of the system fit.
+    let _nodes = system.node_count();
+    Ok(system)
+}
+
+/// Judges claims against points, by a legal design and its system.
+fn judge_by(
+    alloc: Global,
+    legal: &Legal,
+    setup: &Setup,
+    system: System,
+    points: &[Point],
+    claims: &[CertClaim],
+) -> Result<Items<Claim>, CheckError>
+    requires hold { setup.now.hold ≡ [] }
+    requires sites { All (λ p. IsSiteBelow (length legal.now.design.sites) p.test) points.now }
+    requires distinct { AreDistinct (state_names system.states) }
+    requires points { length points.now ≡ length system.hits }
+    requires few { length points.now ≤ 2 ^ 32 }
+    ensures { JudgesClaims system legal.now.design setup.now points.now claims.now result }
+{
+    let names = names_of(alloc, system.states())?;
+    let mut checker = checker_for(alloc, &system)?;
+    let grounds = Grounds {
+        legal,
+        setup,
+        system,
+        names,
+    };
+    judge_claims(alloc, &grounds, points, claims, &mut checker)
+}
+
 /// The claims of a certificate for a text's tree, where it is accepted; each is true. Otherwise the first fault.
 /// A reached claim takes the time of its stimulus's lines times the design, and another one that of its queries
 /// and its lines of proof.
@@ -260,16 +305,8 @@ pub fn judge(alloc: Global, tree: &Tree, cert: &Cert) -> Result<Items<Claim>, Ch
 {
     let legal = elaborate(alloc, tree, &cert.setup)?;
     let points = points(alloc, legal.design(), &cert.setup)?;
-    let sites = sites_of(alloc, points.as_slice())?;
-    let system = translate(alloc, &legal, &sites)?;
-    let names = names_of(alloc, system.states())?;
-    let mut checker = checker_for(alloc, &system)?;
-    let grounds = Grounds {
-        legal: &legal,
-        setup: &cert.setup,
-        system,
-        names,
-    };
+    let listed = points.as_slice();
+    let system = system_for(alloc, &legal, listed)?;
     let claims = cert.claims.as_slice();
-    judge_claims(alloc, &grounds, points.as_slice(), claims, &mut checker)
+    judge_by(alloc, &legal, &cert.setup, system, listed, claims)
 }
