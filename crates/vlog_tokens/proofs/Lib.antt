@@ -1,2 +1,9 @@
+pub mod Tests
 pub mod Tables
 pub mod Digits
+pub mod Closing
+pub mod Longest
+pub mod Turns
+pub mod Reading
+pub mod Once
+pub mod Scanning

@@ -83,7 +83,7 @@ plain (b ∷ bs) = signed_found (below (2 ^ 128) (numeral 10 (b ∷ bs)))
 abbrev pub cut_to : ℕ → ℕ → List ℕ → Option Number
 cut_to width radix digits =
     if nat_lt (numeral radix digits) (2 ^ 128) then
-        Some (record { width = width; value = numeral radix digits % 2 ^ width; wild = open_of width radix digits; is_signed = false })
+    Some (record { width = width; value = numeral radix digits % 2 ^ width; wild = open_of width radix digits; is_signed = false })
     else None
 
 abbrev pub sized : Option ℕ → ℕ → List ℕ → Option Number

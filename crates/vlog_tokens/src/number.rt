@@ -162,7 +162,8 @@ fn with_open_bits(bits: u128, radix: u8, digit: u8) -> u128
     if digit == b'_' {
         return bits;
     }
-    bits.wrapping_mul(radix as u128).wrapping_add(open_bits(radix, digit) as u128)
+    bits.wrapping_mul(radix as u128)
+        .wrapping_add(open_bits(radix, digit) as u128)
 }
 
 /// The bits that match anything, behind those of `filling`, modulo 2^128.
@@ -204,13 +205,7 @@ fn filling(width: u8, digits: &[u8]) -> u128
     ensures { result ≡ spec.filling width digits.now }
 {
     match digits {
-        [first, ..] => {
-            if is_open(*first) {
-                mask(width)
-            } else {
-                0
-            }
-        }
+        [first, ..] => { if is_open(*first) { mask(width) } else { 0 } }
         [] => 0,
     }
 }
@@ -271,7 +266,12 @@ fn signed(value: Option<u128>) -> Option<Number>
     match value {
         Some(value) => {
             if value < 1 << 32 {
-                Some(Number { width: 32, value, wild: 0, is_signed: true })
+                Some(Number {
+                    width: 32,
+                    value,
+                    wild: 0,
+                    is_signed: true,
+                })
             } else {
                 None
             }
