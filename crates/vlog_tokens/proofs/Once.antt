@@ -34,7 +34,7 @@ cut (u ∷ us) r (v ∷ vs) q e =
     ]
 
 -- fronts of one length are the same
-same_front : (us r vs q : List ℕ) → us ++ r ≡ vs ++ q → length us ≡ length vs → (us ≡ vs) × (r ≡ q)
+pub same_front : (us r vs q : List ℕ) → us ++ r ≡ vs ++ q → length us ≡ length vs → (us ≡ vs) × (r ≡ q)
 same_front us r vs q e l = (
   sym (take_at us r (length us) refl) ∙ ap (λ (z : List ℕ). take (length us) z) e ∙ take_at vs q (length us) (sym l),
   sym (drop_at us r (length us) refl) ∙ ap (λ (z : List ℕ). drop (length us) z) e ∙ drop_at vs q (length us) (sym l),
@@ -80,14 +80,14 @@ closes_once a b space rest other behind C D e =
     let wide = closes_long a b other behind D in
     omega (arith, up, down, long, wide)
 
-gap_once : (o : Opening) (space rest other behind : List ℕ) → IsGap o space rest → IsGap o other behind → space ++ rest ≡ other ++ behind → length space ≡ length other
+pub gap_once : (o : Opening) (space rest other behind : List ℕ) → IsGap o space rest → IsGap o other behind → space ++ rest ≡ other ++ behind → length space ≡ length other
 gap_once Blank space rest other behind g h e = g ∙ sym h
 gap_once Line space rest other behind g h e = sym (line_long space rest g.0 g.1) ∙ ap (λ (z : List ℕ). prefix_len is_in_line z) e ∙ line_long other behind h.0 h.1
 gap_once Block space rest other behind g h e = closes_once 42 47 space rest other behind g h e
 gap_once Attribute space rest other behind g h e = closes_once 42 41 space rest other behind g h e
 gap_once Other space rest other behind g h e = absurd g
 
-gap_ends : (o : Opening) (space rest : List ℕ) → IsGap o space rest → IsUnclosed o (space ++ rest) → ⊥
+pub gap_ends : (o : Opening) (space rest : List ℕ) → IsGap o space rest → IsUnclosed o (space ++ rest) → ⊥
 gap_ends Blank space rest g u = u
 gap_ends Line space rest g u = u
 gap_ends Block space rest g u = u g.body rest (closes_drop 42 47 space rest g)

@@ -1,11 +1,11 @@
 -- Where the first directive begins: at the first backquote outside comments (IEEE 1364-2001 clause 19).
-use Rattle.std.specs.Prelude.{◌≡◌, ℕ, ◌<◌, ◌≤◌, Bool, true, false, List, [], ◌∷◌, ◌++◌, ◌⊎◌, length, Option, Some, None, Result, Ok, Err, if◌then◌else◌}
+use Rattle.std.specs.Prelude.{◌≡◌, ℕ, ◌<◌, ◌≤◌, Bool, true, false, List, [], ◌∷◌, ◌++◌, ◌⊎◌, ◌+◌, length, take, drop, Option, Some, None, Result, Ok, Err, if◌then◌else◌}
 use Rattle.std.specs.List.{prefix_len}
 use Rattle.word_core.specs.declared.place.Place.{Place}
 use Rattle.vlog_tokens.specs.declared.directive.Scan.{Scan}
 use Rattle.vlog_tokens.specs.declared.directive.Scan.TheVariants.{Skip, Quote, Rest}
 use Rattle.vlog_tokens.specs.declared.error.LexError.{LexError}
-use Rattle.vlog_tokens.specs.declared.error.LexError.TheVariants.{BadDirective}
+use Rattle.vlog_tokens.specs.declared.error.LexError.TheVariants.{BadDirective, Memory}
 use Rattle.vlog_tokens.specs.declared.gap.Opening.{Opening}
 use Rattle.vlog_tokens.specs.declared.gap.Opening.TheVariants.{Blank, Line, Block, Attribute, Other}
 use Rattle.vlog_tokens.specs.declared.turn.Turn.{Turn}
@@ -38,6 +38,15 @@ pub data Quotes : Place → List ℕ → Option Place → Type 0 where
 -- The answer for a text: the first backquote outside comments is refused before the text is divided.
 abbrev pub LexAnswers : List ℕ → Result (List Token) LexError → Type 0
 LexAnswers text answer = (Quotes start text None × Divided text answer) ⊎ ((at : Place) × Quotes start text (Some at) × (answer ≡ Err (BadDirective at)))
+
+-- No other answer is one for the text, but that memory ran out.
+abbrev pub OnlyAnswer : List ℕ → Result (List Token) LexError → Type 0
+OnlyAnswer text answer = (other : Result (List Token) LexError) → LexAnswers text other → (other ≡ answer) ⊎ ((other ≡ Err Memory) ⊎ (answer ≡ Err Memory))
+
+-- The tokens are slices of the text, in order and apart, behind so many of its bytes.
+abbrev pub AreSlices : List ℕ → ℕ → List Token → Type 0
+AreSlices text from [] = Unit {0}
+AreSlices text from (t ∷ ts) = (from ≤ t.from) × (take (length t.text) (drop t.from text) ≡ t.text) × AreSlices text (t.from + length t.text) ts
 
 -- ---- how the backquote is found
 

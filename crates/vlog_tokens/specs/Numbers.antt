@@ -1,5 +1,5 @@
 -- Numbers: what they are made of, and the values that they have (IEEE 1364-2001 clause 2.5).
-use Rattle.std.specs.Prelude.{ℕ, suc, Bool, false, true, not, ◌&&◌, ◌||◌, ◌==◌, ◌+◌, ◌-◌, ◌*◌, ◌%◌, ◌^◌, nat_lt, nat_le, List, [], ◌∷◌, take, drop, Option, Some, None, if◌then◌else◌}
+use Rattle.std.specs.Prelude.{ℕ, suc, ◌<◌, ◌≤◌, Bool, false, true, not, ◌&&◌, ◌||◌, ◌==◌, ◌+◌, ◌-◌, ◌*◌, ◌%◌, ◌^◌, nat_lt, nat_le, List, [], ◌∷◌, take, drop, Option, Some, None, if◌then◌else◌}
 use Rattle.std.specs.List.{list_all, list_any, prefix_len}
 use Rattle.vlog_tokens.specs.declared.number.Number.{Number}
 use Rattle.vlog_tokens.specs.Bytes.{is_decimal, radix_of, is_digit_of, is_open, is_unknown, worth}
@@ -105,3 +105,10 @@ sized_or_plain size (b ∷ bs) = if b == 39 then based size bs else None
 -- or more without a base, 2^128 or more with one.
 unfoldable pub number_of : List ℕ → Option Number
 number_of text = let n = digits_length is_decimal text in sized_or_plain (take n text) (drop n text)
+
+-- the width is from 1 to 128, and the value and the bits that match anything have no bits beyond it
+pub record IsWithin (number : Number) : Type 0 where
+  pub some : 1 ≤ number.width
+  pub most : number.width ≤ 128
+  pub value : number.value < 2 ^ number.width
+  pub wild : number.wild < 2 ^ number.width

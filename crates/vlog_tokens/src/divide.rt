@@ -1,6 +1,6 @@
-ghost use Rattle.std.specs.Prelude.{◌≡◌, ◌≤◌, length};
+ghost use Rattle.std.specs.Prelude.{◌≡◌, ◌≤◌, length, IfOk};
 ghost use Rattle.vlog_tokens.specs.Reads as spec;
-ghost use Rattle.vlog_tokens.specs.Directives.{LexAnswers};
+ghost use Rattle.vlog_tokens.specs.Directives.{LexAnswers, OnlyAnswer, AreSlices};
 
 use crate::directive::first_backquote;
 use crate::error::LexError;
@@ -45,9 +45,8 @@ fn divided<'a>(alloc: Global, text: &'a [u8]) -> Result<Items<Token<'a>>, LexErr
     Ok(found)
 }
 
-/// The tokens of the text, in order, or the first place from which it can't be read on. Directives are not read: a backquote outside comments is
-/// refused before the text is divided. The time is linear in the text.
-pub fn tokens<'a>(alloc: Global, text: &'a [u8]) -> Result<Items<Token<'a>>, LexError>
+/// The tokens of the text, where it has no backquote outside comments.
+fn answered<'a>(alloc: Global, text: &'a [u8]) -> Result<Items<Token<'a>>, LexError>
     requires { length text.now ≤ 4194304 }
     ensures { LexAnswers text.now result }
 {
@@ -55,6 +54,17 @@ pub fn tokens<'a>(alloc: Global, text: &'a [u8]) -> Result<Items<Token<'a>>, Lex
         Some(at) => Err(LexError::BadDirective { at }),
         None => divided(alloc, text),
     }
+}
+
+/// The tokens of the text, in order, or the first place from which it can't be read on. Directives are not read: a backquote outside comments is
+/// refused before the text is divided. The time is linear in the text.
+pub fn tokens<'a>(alloc: Global, text: &'a [u8]) -> Result<Items<Token<'a>>, LexError>
+    requires { length text.now ≤ 4194304 }
+    ensures answers { LexAnswers text.now result }
+    ensures only { OnlyAnswer text.now result }
+    ensures slices { IfOk result (λ found. AreSlices text.now 0 found) }
+{
+    answered(alloc, text)
 }
 
 #[cfg(test)]
@@ -184,6 +194,12 @@ mod tests {
             b"a$ $ ",
             LexError::BadChar {
                 at: Place { line: 1, col: 4 },
+            },
+        ),
+        (
+            b"$ // ` \n`",
+            LexError::BadDirective {
+                at: Place { line: 2, col: 1 },
             },
         ),
     ];

@@ -1,4 +1,4 @@
-ghost use Rattle.std.specs.Prelude.{◌≡◌, ◌≤◌, ◌<◌, ◌+◌, ◌*◌, ◌-◌, ◌%◌, ◌^◌, length};
+ghost use Rattle.std.specs.Prelude.{◌≡◌, ◌≤◌, ◌<◌, ◌+◌, ◌*◌, ◌-◌, ◌%◌, ◌^◌, length, IfSome};
 ghost use Rattle.std.specs.List.{prefix_len, list_all, list_any};
 ghost use Rattle.vlog_tokens.specs.Bytes as class;
 ghost use Rattle.vlog_tokens.specs.Numbers as spec;
@@ -366,7 +366,8 @@ fn sized_or_plain(size: &[u8], text: &[u8]) -> Option<Number>
 /// 2^32 or more without a base, 2^128 or more with one. The time is linear in the text.
 #[tactic(auto, unfolding(crate::specs::Numbers::number_of))]
 pub fn number_of(text: &[u8]) -> Option<Number>
-    ensures { result ≡ spec.number_of text.now }
+    ensures value { result ≡ spec.number_of text.now }
+    ensures within { IfSome result (λ n. spec.IsWithin n) }
 {
     let (size, behind) = text.split_at(decimal_length(text));
     sized_or_plain(size, behind)
