@@ -1,0 +1,11 @@
+pub mod Tests
+pub mod Tables
+pub mod Digits
+pub mod NumberLaws
+pub mod Closing
+pub mod Longest
+pub mod Turns
+pub mod Reading
+pub mod Once
+pub mod Scanning
+pub mod Only
