@@ -11,6 +11,7 @@ use Rattle.cert_text.specs.declared.claim.Claim.{Claim}
 use Rattle.cert_text.specs.Answers.{CertAnswers}
 use Rattle.source_check.specs.declared.error.CheckError.{CheckError}
 use Rattle.source_check.specs.Checking.{ReadAndJudged}
+use Rattle.every_order.proofs.Verdicts.{true_in_every_order}
 use Rattle.source_check.specs.Judging.{Judges, AreTrue}
 use Rattle.unr_engine.specs.declared.stop.Refusal.TheVariants as refusal
 use Rattle.unr_engine.specs.Content.{SpellNothing, CheckRefuses, check_work, Answers}
@@ -75,7 +76,7 @@ answered file cert text text' spelling spelling' tree certificate claims t s a b
   record {
     claims = claims;
     accepted = judged_so text text' spelling spelling' tree certificate (Ok claims) t s a b j;
-    are_true = facts;
+    are_true = true_in_every_order tree certificate claims facts;
     reported = refl;
   },
 )

@@ -18,6 +18,7 @@ use Rattle.source_check.specs.declared.error.SourceError.TheVariants as source
 use Rattle.source_check.specs.declared.points.Front.{Front}
 use Rattle.source_check.specs.Checking.{TextRefused, FrontAnswers}
 use Rattle.source_check.specs.Legal.{IsElaborated}
+use Rattle.every_order.proofs.Verdicts.{true_in_every_order}
 use Rattle.text_prover.specs.declared.proving.Proven.{Proven}
 use Rattle.text_prover.specs.Proving.{setup_of, IsProven}
 use Rattle.unr_engine.specs.declared.stop.Refusal.TheVariants as refusal
@@ -64,6 +65,7 @@ ran_proves file top clock prefix effort status (Done left_open) desk desk' out o
       told = (let P : List (List ℕ) → Type 0 = λ loaded. AreTold desk.told command loaded in subst P answer.1 (told_of command ran.loaded ran.held [] desk.told desk'.told ran.desk_kept));
       proven = p;
       is_proven = proof.is_proven;
+      are_true = true_in_every_order proof.is_proven.tree proof.is_proven.cert p.claims proof.is_proven.are_true;
       stored = tells_so desk.told desk'.told (DeskKept command ran.loaded ran.held []) (AreStored prefix p.cert.items (exclusions p.claims)) ran.desk_kept (λ x y told k.
           let P : List (List ℕ × List ℕ) → Type 0 = λ h. Written h x.files y.files in
           let both = both_held prefix p.cert.items (exclusions p.claims) x.files y.files (subst P (ap (λ (w : Work). w.stores) proof.made) k.files) in

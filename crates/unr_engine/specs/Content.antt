@@ -6,7 +6,7 @@ use Rattle.cert_text.specs.declared.error.CertError.{CertError}
 use Rattle.cert_text.specs.declared.claim.Claim.{Claim}
 use Rattle.cert_text.specs.Answers.{CertAnswers}
 use Rattle.source_check.specs.Checking.{ReadAndJudged, FrontAnswers}
-use Rattle.source_check.specs.Judging.{AreTrue}
+use Rattle.every_order.specs.Truth.{AreTrueInEveryOrder}
 use Rattle.text_prover.specs.declared.proving.Proven.{Proven}
 use Rattle.text_prover.specs.Proving.{setup_of, IsProven}
 use Rattle.unr_engine.specs.declared.stop.Refusal.{Refusal}
@@ -44,11 +44,11 @@ proof_work prefix effort p = record {
   left_open = some_open p.claims;
 }
 
--- The certificate is accepted, each of its claims is true of the text, and their report is the work.
+-- The certificate is accepted, each of its claims is true of the text in every order of its processes, and their report is the work.
 pub record Report (text spelling : List ℕ) (work : Work) : Type 0 where
   pub claims : List Claim
   pub accepted : ReadAndJudged text spelling (Ok claims)
-  pub are_true : AreTrue accepted.0 accepted.1 claims
+  pub are_true : AreTrueInEveryOrder accepted.0 accepted.1 claims
   pub reported : work ≡ check_work claims
 
 -- Claims are proved of the text, and the work is made of them.

@@ -12,7 +12,7 @@ use Rattle.source_check.specs.declared.error.CheckError.{CheckError}
 use Rattle.source_check.specs.declared.error.SourceError.{SourceError}
 use Rattle.source_check.specs.declared.points.Front.{Front}
 use Rattle.source_check.specs.Checking.{ReadAndJudged, FrontAnswers}
-use Rattle.source_check.specs.Judging.{AreTrue}
+use Rattle.every_order.specs.Truth.{AreTrueInEveryOrder}
 use Rattle.text_prover.specs.declared.proving.Proven.{Proven}
 use Rattle.text_prover.specs.Proving.{setup_of, IsProven}
 use Rattle.unr_engine.specs.declared.stop.Refusal.{Refusal}
@@ -31,14 +31,15 @@ AreTold (Some told) command loaded = AreLoaded (loads_of command) loaded told.fi
 
 -- ---- check
 
--- The certificate in CERT is accepted for the text in FILE, each of its claims is true of the text, and their report is put out.
+-- The certificate in CERT is accepted for the text in FILE, each of its claims is true of the text in every order of its processes, and their
+-- report is put out.
 pub record Accepts (file cert : List ℕ) (desk : DeskState) (out out' : SinkState) : Type 0 where
   pub text : List ℕ
   pub spelling : List ℕ
   pub told : AreTold desk.told (Check_files file cert) (text ∷ spelling ∷ [])
   pub claims : List Claim
   pub judged : ReadAndJudged text spelling (Ok claims)
-  pub are_true : AreTrue judged.0 judged.1 claims
+  pub are_true : AreTrueInEveryOrder judged.0 judged.1 claims
   pub reported : out'.written ≡ appended out.written (report claims)
 
 -- The files are refused, with that status and a message of it.
@@ -81,7 +82,7 @@ pub record AreStored (prefix cert list : List ℕ) (was is : Told) : Type 0 wher
   pub cert_held : file_at is.files (cert_name prefix) ≡ Some cert
   pub list_held : file_at is.files (list_name prefix) ≡ Some list
 
--- Claims are proved of the text in FILE, one for each of its points, and each is true. PREFIX.cert holds their certificate, which is
+-- Claims are proved of the text in FILE, one for each of its points, and each is true in every order of its processes. PREFIX.cert holds their certificate, which is
 -- accepted, PREFIX.excl the points of those that are excluded, and their report is put out, by which each open one used the whole effort.
 -- The status is 1 exactly where one is open.
 pub record Proves (file top clock prefix : List ℕ) (effort status : ℕ) (desk desk' : DeskState) (out out' : SinkState) : Type 0 where
@@ -89,6 +90,7 @@ pub record Proves (file top clock prefix : List ℕ) (effort status : ℕ) (desk
   pub told : AreTold desk.told (Prove_file file top clock prefix effort) (text ∷ [])
   pub proven : Proven
   pub is_proven : IsProven text top clock effort proven
+  pub are_true : AreTrueInEveryOrder is_proven.tree is_proven.cert proven.claims
   pub stored : Tells desk.told desk'.told (AreStored prefix proven.cert.items (exclusions proven.claims))
   pub reported : out'.written ≡ appended out.written (proof_report effort proven.claims proven.used)
   pub left_open : (status ≡ 1) ↔ (1 ≤ count is_open proven.claims)

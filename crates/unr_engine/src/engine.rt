@@ -94,7 +94,7 @@ pub fn run<D: Desk, O: Sink, E: Sink>(
     ensures words { (result ≡ 2) ↔ NamesNothing (texts words.now) }
     ensures untouched { result ≡ 2 → (D.state desk.new ≡ D.state desk.old) × (O.state out.new ≡ O.state out.old) }
 
-    // `check` ends with 0 only where CERT's certificate is accepted for FILE's text. Then each claim is true of the text.
+    // `check` ends with 0 only where CERT's certificate is accepted for FILE's text. Then each claim is true of the text, in every order of its processes.
     ensures accepts { (file cert : List ℕ) → Names (texts words.now) (Check_files file cert) → result ≡ 0 → Accepts file cert (D.state desk.old) (O.state out.old) (O.state out.new) }
 
     // It ends with 4 or 5 only where their bytes are refused with that status: the text, or the certificate.
@@ -106,7 +106,7 @@ pub fn run<D: Desk, O: Sink, E: Sink>(
     // Where FILE's text is refused, that decides, whatever CERT is.
     ensures text_first { (file cert text : List ℕ) (error : TextError) → Names (texts words.now) (Check_files file cert) → HasText (D.state desk.old).told file text → TextAnswers text (Err error) → (Rose (D.state desk.old).faults (D.state desk.new).faults → ⊥) → (Rose (O.state out.old).faults (O.state out.new).faults → ⊥) → Agree result (text_status error) }
 
-    // `prove` ends with 0 or 1 only where it has one true claim for each point of FILE's text, and stored and put out what it says of them. It ends with 1 exactly where one of them is open.
+    // `prove` ends with 0 or 1 only where it has one claim for each point of FILE's text that is true in every order of its processes, and stored and put out what it says of them. It ends with 1 exactly where one of them is open.
     ensures proves { (file top clock prefix : List ℕ) (effort : ℕ) → Names (texts words.now) (Prove_file file top clock prefix effort) → (result ≡ 0) ⊎ (result ≡ 1) → Proves file top clock prefix effort result (D.state desk.old) (D.state desk.new) (O.state out.old) (O.state out.new) }
 
     // It ends with 4 only where FILE's text is refused, or its design, and never with 5. No other command ends with 1.
