@@ -1,0 +1,5 @@
+pub mod Back
+pub mod Naming
+pub mod Parts
+pub mod Reaching
+pub mod Small
