@@ -1,4 +1,5 @@
 pub mod Back
+pub mod Laws
 pub mod Naming
 pub mod Parts
 pub mod Reaching

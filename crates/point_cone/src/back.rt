@@ -2,6 +2,7 @@
 ghost use Rattle.std.specs.Prelude.{◌≡◌, ◌<◌, All, IfOk, length, map};
 ghost use Rattle.bit_system.specs.Machine.{IsStart, IsInput};
 ghost use Rattle.point_cone.specs.Back.{whole_lit, whole_lemma, value_of_start, starting, IsPut};
+ghost use Rattle.point_cone.specs.Laws.{WalksAreSeen, LemmasAreSame};
 ghost use Rattle.point_cone.specs.Parts.{ArePlaces, IsCone, part};
 
 use crate::build::Cone;
@@ -94,3 +95,13 @@ impl Cone {
         Ok(values)
     }
 }
+
+/// The part of a walk of the whole system is a walk of the cone, with the same hits.
+pub fn law_walks_are_seen()
+    ensures { WalksAreSeen }
+{}
+
+/// A lemma of the cone, on the places in the whole system, is true in a state where it is true in the state's part.
+pub fn law_lemmas_are_same()
+    ensures { LemmasAreSame }
+{}
