@@ -1,28 +1,26 @@
 -- The lemmas of frames make ladders.
-use Rattle.std.proofs.Common.{◌≡◌, ◌≢◌, ℕ, ◌+◌, ◌-◌, ◌<◌, ◌≤◌, ◌==◌, nat_lt, nat_le, min, zero, suc, Bool, true, false, cond, is_some, Option, Some, None, List, [], ◌∷◌, map, length, get_or, refl, sym, ap, ◌∙◌, subst, arith, inl, inr}
+use Rattle.std.proofs.Common.{◌≡◌, ◌≢◌, ℕ, ◌+◌, ◌-◌, ◌<◌, ◌≤◌, ◌==◌, min, zero, suc, Bool, true, false, cond, Some, List, [], map, length, get_or, refl, sym, ap, ◌∙◌, subst, arith}
 use Rattle.std.specs.Prelude.{All as Each}
 use Rattle.std.specs.List.{filter}
-use Rattle.std.proofs.lemmas.Bool.{true≢false, cases_lt}
+use Rattle.std.proofs.lemmas.Bool.{true≢false}
 use Rattle.std.proofs.lemmas.Bool.Decides.{nat_tests}
 use Rattle.std.proofs.lemmas.List.{get_or-map, length-map}
 use Rattle.std.proofs.lemmas.List.Elements.{All-nil, All-map, All-filter, All-weaker}
-use Rattle.cnf_core.specs.Literal.{Literal}
 use Rattle.aig_core.specs.Graph.{node_count}
 use Rattle.bit_system.specs.declared.ladder.Depth.{Depth}
 use Rattle.bit_system.specs.declared.ladder.Depth.TheVariants.{All, Steps}
 use Rattle.bit_system.specs.declared.ladder.Lemma.{Lemma}
-use Rattle.bit_system.specs.declared.ladder.Ladder.{Ladder}
-use Rattle.bit_system.specs.Machine.{Machine, IsMachine, IsInput, next_state}
+use Rattle.bit_system.specs.Machine.{Machine, IsInput, next_state}
 use Rattle.bit_system.specs.Ladders.{HasStates, is_at_least, previous, lemma_true}
 use Rattle.bit_system.specs.ProofLines.{ProofLine}
 use Rattle.bit_system.specs.Queries.{hit_clauses}
 use Rattle.bit_system.specs.Accepted.{IsLevelOf, LemmaFits, has_steps, true_at_start, IsRefutedBy, IsAccepted}
 use Rattle.generalise.specs.Frames.{InFrame}
 use Rattle.ic3_frames.specs.Framed.{Framed}
-use Rattle.ic3_frames.specs.Queries.{Fails, Hits}
+use Rattle.ic3_frames.specs.Queries.{Fails}
 use Rattle.ic3_frames.specs.Rules.{IsFrameLemma, IsKept}
 use Rattle.ic3_frames.specs.Turns.{IsClosed}
-use Rattle.ic3_frames.proofs.Laws.{frame_up, start_in_frame}
+use Rattle.ic3_frames.proofs.Laws.{start_in_frame}
 use Rattle.ic3_frames.proofs.Levels.{steps_same, at_least_steps, steps_at_least, each_tested, each_filtered}
 use Rattle.point_prover.specs.Good.{IsGood, AreProved}
 use Rattle.point_prover.specs.Levels.{at_level, all_for_ever, capped, all_capped}
@@ -47,7 +45,7 @@ pub has_states : (m : Machine) (point : ℕ) (depth : Depth) (lemmas : List Lemm
 has_states m point depth lemmas g = All-weaker (LemmaFits m depth) (HasStates m) (λ l f. f.states) lemmas g.fits
 
 -- from a list that was mapped
-each_back : (P Q : Lemma → Type 0) (h : Lemma → Lemma) → ((l : Lemma) → P (h l) → Q l) → (ls : List Lemma) → Each P (map h ls) → Each Q ls
+pub each_back : (P Q : Lemma → Type 0) (h : Lemma → Lemma) → ((l : Lemma) → P (h l) → Q l) → (ls : List Lemma) → Each P (map h ls) → Each Q ls
 each_back P Q h to ls e i d low = to (get_or ls i d) (subst P (get_or-map h ls i d (h d) low) (e i (h d) (omega (arith, length-map ls h))))
 
 -- ---- equal frames

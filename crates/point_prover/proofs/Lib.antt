@@ -1,2 +1,3 @@
 pub mod Ladders
 pub mod Refuted
+pub mod Whole

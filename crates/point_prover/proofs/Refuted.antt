@@ -1,11 +1,10 @@
 -- What a solver that keeps its lines shows, and proofs of a ladder, under way.
-use Rattle.std.proofs.Common.{◌≡◌, ◌≢◌, ℕ, ◌+◌, ◌<◌, ◌≤◌, Bool, Option, Some, None, List, [], ◌∷◌, ◌++◌, map, length, get_or, refl, sym, ap, ◌∙◌, subst, arith, inl, inr}
+use Rattle.std.proofs.Common.{◌≡◌, ◌≢◌, ℕ, ◌+◌, ◌<◌, Bool, Option, Some, None, List, [], ◌∷◌, ◌++◌, map, length, get_or, refl, sym, ap, ◌∙◌, subst, arith, inl, inr}
 use Rattle.std.specs.Prelude.{All as Each, MatchOption}
 use Rattle.std.specs.Option.{unwrap_or}
 use Rattle.std.proofs.lemmas.Bool.{cases_lt}
 use Rattle.std.proofs.lemmas.List.{get_or_append_left, get_or_at, length_push}
 use Rattle.cnf_core.specs.Literal.{Literal, HaveNoSolution}
-use Rattle.cnf_core.specs.Lrat.{Refutes}
 use Rattle.cnf_core.specs.declared.Line.{Line}
 use Rattle.proof_lines.specs.Sinks.{SinkState, Tells}
 use Rattle.proof_lines.specs.Kept.{kept_state}

@@ -7,7 +7,7 @@ use Rattle.bit_system.specs.declared.ladder.Lemma.{Lemma}
 use Rattle.bit_system.specs.Machine.{Machine, IsMachine}
 use Rattle.bit_system.specs.ProofLines.{ProofLine}
 use Rattle.bit_system.specs.Queries.{step_clauses}
-use Rattle.bit_system.specs.Accepted.{LemmaFits, true_at_start, has_steps, IsRefutedBy}
+use Rattle.bit_system.specs.Accepted.{LemmaFits, true_at_start, IsRefutedBy}
 use Rattle.ic3_frames.specs.Queries.{Fails, Hits}
 
 -- the lemmas fit a ladder of this depth, the start makes each true, no step makes one false, and none of the states that are left hits

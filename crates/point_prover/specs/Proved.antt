@@ -1,6 +1,5 @@
 -- What is found out of a point.
 use Rattle.std.specs.Prelude.{◌≡◌, ℕ, ◌≤◌}
-use Rattle.bit_system.specs.declared.ladder.Depth.{Depth}
 use Rattle.bit_system.specs.declared.ladder.Depth.TheVariants.{All}
 use Rattle.bit_system.specs.declared.ladder.Ladder.{Ladder}
 use Rattle.bit_system.specs.Machine.{Machine}

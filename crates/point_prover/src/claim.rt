@@ -2,12 +2,14 @@
 ghost use Rattle.std.specs.Prelude.{◌≡◌, ◌≤◌};
 ghost use Rattle.generalise.specs.Effort.{Uses};
 ghost use Rattle.ic3_frames.specs.Rules.{IsKept};
+ghost use Rattle.point_cone.specs.Parts.{IsCone};
 ghost use Rattle.point_prover.specs.Claims.{IsClaim};
 
 use crate::ladder::depth_ladder;
 use bit_system::{Depth, Ladder, Memory, System};
 use generalise::Units;
 use ic3_frames::Frames;
+use point_cone::Cone;
 use sqlite_items::Items;
 use std::alloc::Global;
 
@@ -43,15 +45,16 @@ pub fn no_claim(alloc: Global, system: &System, point: u32) -> Claim
 pub fn deepen(
     alloc: Global,
     system: &System,
-    point: u32,
+    cone: &Cone,
     frames: &Frames,
     claim: &mut Claim,
     units: &mut Units,
 ) -> Result<(), Memory>
-    requires kept { IsKept system.now frames.now }
-    requires point { frames.now.point ≡ point }
-    requires claim { IsClaim system.now point frames.now.depth claim.old }
-    ensures claim { IsClaim system.now point frames.now.depth claim.new }
+    requires cone { IsCone system.now cone.now }
+    requires kept { IsKept cone.now.system frames.now }
+    requires point { frames.now.point ≡ 0 }
+    requires claim { IsClaim system.now cone.now.point frames.now.depth claim.old }
+    ensures claim { IsClaim system.now cone.now.point frames.now.depth claim.new }
     ensures uses { Uses units.old units.new }
 {
     let prelude = u64::from(system.prelude());
@@ -59,7 +62,7 @@ pub fn deepen(
     if units.used < claim.due || depth <= prelude {
         return Ok(());
     }
-    let Some(ladder) = depth_ladder(alloc, system, point, frames, units)? else {
+    let Some(ladder) = depth_ladder(alloc, system, cone, frames, units)? else {
         return Ok(());
     };
     *claim = Claim {

@@ -9,6 +9,8 @@ ghost use Rattle.aig_core.specs.Graph.{node_count};
 ghost use Rattle.generalise.specs.Effort.{Uses};
 ghost use Rattle.ic3_frames.specs.Rules.{IsKept};
 ghost use Rattle.ic3_frames.specs.Turns.{IsClosed};
+ghost use Rattle.point_cone.specs.Back.{whole_lemma};
+ghost use Rattle.point_cone.specs.Parts.{IsCone};
 ghost use Rattle.point_prover.specs.Good.{IsGood, AreProved};
 ghost use Rattle.point_prover.specs.Levels.{capped, all_capped, all_for_ever};
 
@@ -16,6 +18,7 @@ use crate::proving::refute;
 use bit_system::{Depth, Ladder, Lemma, Memory, Proof, System, hit_query, step_query};
 use generalise::Units;
 use ic3_frames::Frames;
+use point_cone::Cone;
 use sqlite_items::Items;
 use std::alloc::Global;
 
@@ -62,6 +65,18 @@ fn lemmas_capped(alloc: Global, lemmas: &[Lemma], top: u64) -> Result<Items<Lemm
         kept.push(at_level(alloc, lemma, capped(lemma.level, top))?)?;
     }
     Ok(kept)
+}
+
+/// The lemmas of the cone, about the whole system.
+fn whole_lemmas(alloc: Global, cone: &Cone, lemmas: &[Lemma]) -> Result<Items<Lemma>, Memory>
+    requires { All (λ k. All (λ l. l.state < length cone.now.states) k.lits) lemmas.now }
+    ensures { IfOk result (λ ls. ls ≡ map (whole_lemma cone.now.states) lemmas.now) }
+{
+    let mut whole = Items::new(alloc);
+    for lemma in lemmas {
+        whole.push(cone.lemma(alloc, lemma)?)?;
+    }
+    Ok(whole)
 }
 
 /// The proof of the lemma at this place.
@@ -158,19 +173,23 @@ fn ladder_of(
 pub fn closed_ladder(
     alloc: Global,
     system: &System,
-    point: u32,
+    cone: &Cone,
     frames: &Frames,
     level: u64,
     units: &mut Units,
 ) -> Result<Option<Ladder>, Memory>
-    requires kept { IsKept system.now frames.now }
-    requires point { frames.now.point ≡ point }
-    requires closed { IsClosed system.now frames.now level }
-    ensures ladder { IfOk result (λ l. MatchOption l (units.new.used ≡ units.new.effort) (λ l. (l.depth ≡ Ever) × IsAccepted system.now point l)) }
+    requires cone { IsCone system.now cone.now }
+    requires kept { IsKept cone.now.system frames.now }
+    requires point { frames.now.point ≡ 0 }
+    requires closed { IsClosed cone.now.system frames.now level }
+    ensures ladder { IfOk result (λ l. MatchOption l (units.new.used ≡ units.new.effort) (λ l. (l.depth ≡ Ever) × IsAccepted system.now cone.now.point l)) }
     ensures uses { Uses units.old units.new }
 {
+    // Shows that the parts of the system fit.
+    let _nodes = system.node_count();
     let lemmas = lemmas_for_ever(alloc, frames.lemmas(), level)?;
-    let ladder = ladder_of(alloc, system, Depth::All, point, lemmas, units)?;
+    let lemmas = whole_lemmas(alloc, cone, lemmas.as_slice())?;
+    let ladder = ladder_of(alloc, system, Depth::All, cone.point, lemmas, units)?;
     Ok(ladder)
 }
 
@@ -178,18 +197,29 @@ pub fn closed_ladder(
 pub fn depth_ladder(
     alloc: Global,
     system: &System,
-    point: u32,
+    cone: &Cone,
     frames: &Frames,
     units: &mut Units,
 ) -> Result<Option<Ladder>, Memory>
-    requires kept { IsKept system.now frames.now }
-    requires point { frames.now.point ≡ point }
+    requires cone { IsCone system.now cone.now }
+    requires kept { IsKept cone.now.system frames.now }
+    requires point { frames.now.point ≡ 0 }
     requires depth { 0 < frames.now.depth }
-    ensures ladder { IfOk result (λ l. MatchOption l (units.new.used ≡ units.new.effort) (λ l. (l.depth ≡ Steps frames.now.depth) × IsAccepted system.now point l)) }
+    ensures ladder { IfOk result (λ l. MatchOption l (units.new.used ≡ units.new.effort) (λ l. (l.depth ≡ Steps frames.now.depth) × IsAccepted system.now cone.now.point l)) }
     ensures uses { Uses units.old units.new }
 {
+    // Shows that the parts of the system fit.
+    let _nodes = system.node_count();
     let depth = frames.depth();
     let lemmas = lemmas_capped(alloc, frames.lemmas(), depth - 1)?;
-    let ladder = ladder_of(alloc, system, Depth::Steps(depth), point, lemmas, units)?;
+    let lemmas = whole_lemmas(alloc, cone, lemmas.as_slice())?;
+    let ladder = ladder_of(
+        alloc,
+        system,
+        Depth::Steps(depth),
+        cone.point,
+        lemmas,
+        units,
+    )?;
     Ok(ladder)
 }

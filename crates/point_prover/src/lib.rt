@@ -5,6 +5,7 @@ mod claim;
 mod ladder;
 mod prover;
 mod proving;
+mod walk;
 
 pub use bit_system::Memory;
 pub use ic3_frames::Walk;

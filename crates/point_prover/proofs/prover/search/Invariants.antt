@@ -1,13 +1,13 @@
 use Rattle.std.proofs.Common.{◌≡◌, ◌-◌, ◌≤◌}
 use Rattle.ic3_frames.specs.Rules.{IsKept}
 use Rattle.point_prover.specs.Claims.{IsClaim}
-use Rattle.point_prover.proofs.prover.prove.Given as goal
+use Rattle.point_prover.proofs.prover.search.Given as goal
 
 abbrev pub invariant-loop-claim : goal.invariant-loop-claim
 invariant-loop-claim l = record {
-  kept : IsKept l.system l.frames;
-  point : l.frames.point ≡ l.point;
-  claim : IsClaim l.system l.point l.frames.depth l.claim;
+  kept : IsKept l.cone.system l.frames;
+  point : l.frames.point ≡ 0;
+  claim : IsClaim l.system l.cone.point l.frames.depth l.claim;
   effort : l.units.effort ≡ l.fn.effort;
   counted : l.frames.depth ≤ l.units.used;
 }

@@ -1,0 +1,14 @@
+use Rattle.std.proofs.Common.{◌≡◌, ◌∙◌, sym}
+use Rattle.point_cone.proofs.Whole.{part_put, start_put}
+use Rattle.point_cone.proofs.build.Cone.start.Goals as goal
+
+pub returns-clause-start : goal.returns-clause-start
+returns-clause-start c =
+    let values = rw c.states.ensures.value at c.in_ok-values.ensures in
+    let put = rw (c.as_slice.ensures, values) at c.put.ensures in
+    start_put c.args.system.now c.args.self.now c.args.start.now c.put.new.values c.requires.cone c.requires.start put
+
+pub returns-clause-part : goal.returns-clause-part
+returns-clause-part c =
+    let put = rw c.as_slice.ensures at c.put.ensures in
+    part_put c.args.self.now.states c.args.start.now c.in_ok-values.values c.put.new.values (c.requires.start.is_state ∙ c.requires.cone.state_count) put

@@ -1,0 +1,6 @@
+pub mod Back
+pub mod Laws
+pub mod Naming
+pub mod Parts
+pub mod Reaching
+pub mod Small
