@@ -1,5 +1,5 @@
 -- No steps go on for ever.
-use Rattle.std.proofs.Common.{◌≡◌, ℕ, List, [], ◌∷◌, refl, ◌∙◌, length, ◌<◌, ◌≤◌, false, set, arith}
+use Rattle.std.proofs.Common.{◌≡◌, ℕ, List, [], ◌∷◌, refl, ◌∙◌, length, ◌<◌, ◌≤◌, false, arith}
 use Rattle.std.proofs.lemmas.List.{length-set}
 use Rattle.design_core.specs.declared.flat.Design.{Design}
 use Rattle.design_core.specs.Exec.{exec, perform}
@@ -13,13 +13,13 @@ use Rattle.event_order.proofs.Working.{work_update}
 use Rattle.event_order.proofs.Turning.{ran_work}
 
 module _ (d : Design) (order : List ℕ) (legal : IsLegal d order) where
-  still_flagged : (s : State) (x : Step) → length s.pending ≡ length d.processes → length (after d s x).pending ≡ length d.processes
+  pub still_flagged : (s : State) (x : Step) → length s.pending ≡ length d.processes → length (after d s x).pending ≡ length d.processes
   still_flagged s (Run k) long =
       let w = (exec (process_at d k).body s.values).values in
       length-set (woken d.processes s.values w s.pending) k false ∙ length-woken d.processes s.values w s.pending long
   still_flagged s Update long = length-woken d.processes s.values (perform s.waiting s.values) s.pending long
 
-  less : (s : State) (x : Step) → length s.pending ≡ length d.processes → MayTake d s x → work d order (after d s x).pending (after d s x).waiting < work d order s.pending s.waiting
+  pub less : (s : State) (x : Step) → length s.pending ≡ length d.processes → MayTake d s x → work d order (after d s x).pending (after d s x).waiting < work d order s.pending s.waiting
   less s (Run k) long may =
       ran_work d k s.values s.pending s.waiting (after d s (Run k)).values (after d s (Run k)).pending (after d s (Run k)).waiting may.0 (record { values = refl; pending = refl; waiting = refl }) long may.1 order legal
   less s Update long may = work_update d order legal s.values (perform s.waiting s.values) s.pending s.waiting long may.0 may.1

@@ -17,3 +17,4 @@ pub mod Working
 pub mod Turning
 pub mod Simulating
 pub mod Bounded
+pub mod Naming

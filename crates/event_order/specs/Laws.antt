@@ -11,6 +11,7 @@ use Rattle.design_core.specs.Verdicts.{Point, Passes, NotWithin, Never, HitAt}
 use Rattle.event_order.specs.States.{State, IsQuiet}
 use Rattle.event_order.specs.Steps.{Step, Leads}
 use Rattle.event_order.specs.Cycles.{fresh, Runs}
+use Rattle.event_order.specs.Numbers.{Follows}
 use Rattle.event_order.specs.Work.{work}
 use Rattle.event_order.specs.Verdicts.{IsMachineRun, MachineNotWithin, MachineNever, MachineHitAt}
 use Rattle.event_order.specs.Registers.{registers_in}
@@ -53,6 +54,18 @@ EveryCycleEnds = (d : Design) (order : List ℕ) (s : State) → IsLegal d order
 abbrev pub EveryOrderEnds : Type 0
 EveryOrderEnds = (d : Design) (order : List ℕ) (s : State) (xs : List Step) (t : State) → IsLegal d order → length s.pending ≡ length d.processes →
     Leads d s xs t → length xs ≤ work d order s.pending s.waiting
+
+-- the number x names some steps from s to a quiet state, and no others
+pub record NamesOne (d : Design) (x : ℕ) (s : State) : Type 0 where
+  pub steps : List Step
+  pub number : ℕ
+  pub end : State
+  pub follows : Follows d x s steps number end
+  pub quiet : IsQuiet end
+  pub only : (ys : List Step) (z : ℕ) (u : State) → Follows d x s ys z u → IsQuiet u → (ys ≡ steps) × (z ≡ number) × (u ≡ end)
+
+abbrev pub EveryNumberNamesOne : Type 0
+EveryNumberNamesOne = (d : Design) (order : List ℕ) (x : ℕ) (s : State) → IsLegal d order → length s.pending ≡ length d.processes → NamesOne d x s
 
 -- the verdicts over settled runs are those over the machine's runs
 pub record SameVerdicts (d : Design) (setup : Setup) (point : Point) : Type 0 where

@@ -1,6 +1,6 @@
 // Laws over every order of steps.
 
-ghost use Rattle.event_order.specs.Laws.{EveryOrderSettles, EveryCycleEnds, EveryOrderEnds, EveryVerdictAgrees, EveryStimulusRuns};
+ghost use Rattle.event_order.specs.Laws.{EveryOrderSettles, EveryCycleEnds, EveryOrderEnds, EveryNumberNamesOne, EveryVerdictAgrees, EveryStimulusRuns};
 
 /// Every run of the machine, in any order of steps, is a settled run, and every settled run is like one of the machine.
 pub fn law_every_order_settles()
@@ -15,6 +15,11 @@ pub fn law_every_cycle_ends()
 /// From such a state no list of steps is longer than the work that is left, so none goes on for ever.
 pub fn law_every_order_ends()
     ensures { EveryOrderEnds }
+{}
+
+/// From such a state each order number names one list of steps to a quiet state, and no other.
+pub fn law_every_number_names_one()
+    ensures { EveryNumberNamesOne }
 {}
 
 /// What is said of a point over settled runs is said of it over the machine's.
