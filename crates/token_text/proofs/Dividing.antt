@@ -1,5 +1,5 @@
 -- The text of tokens divides into them again.
-use Rattle.std.proofs.Common.{◌≡◌, ℕ, zero, suc, ◌+◌, ◌≤◌, ◌<◌, ◌==◌, Bool, true, false, not, ◌&&◌, if◌then◌else◌, ◌⊎◌, inl, inr, List, [], ◌∷◌, ◌++◌, length, Option, Some, None, Result, Ok, Err, refl, sym, ◌∙◌, ap, subst, arith, length-append}
+use Rattle.std.proofs.Common.{◌≡◌, ℕ, zero, suc, ◌+◌, ◌≤◌, ◌<◌, ◌==◌, Bool, true, false, not, if◌then◌else◌, inl, inr, List, [], ◌∷◌, ◌++◌, length, Option, None, Ok, refl, sym, ap, subst, arith, length-append}
 use Rattle.std.specs.List.{list_all}
 use Rattle.word_core.specs.declared.place.Place.{Place}
 use Rattle.vlog_tokens.specs.declared.directive.Scan.{Scan}
@@ -9,11 +9,11 @@ use Rattle.vlog_tokens.specs.declared.gap.Opening.TheVariants.{Blank}
 use Rattle.vlog_tokens.specs.Bytes.{is_blank}
 use Rattle.vlog_tokens.specs.Gaps.{opening, opening_of_solid, IsGap}
 use Rattle.vlog_tokens.specs.Places.{start, past}
-use Rattle.vlog_tokens.specs.Tokens.{Token, IsToken}
-use Rattle.vlog_tokens.specs.Reads.{is_bad_number, Reads, ends, stops, gap, token}
+use Rattle.vlog_tokens.specs.Tokens.{Token}
+use Rattle.vlog_tokens.specs.Reads.{Reads, ends, stops, gap, token}
 use Rattle.vlog_tokens.specs.Directives.{IsSkip, Quotes, none, unclosed, skip, scan, LexAnswers}
 use Rattle.vlog_tokens.proofs.Tests.{differ, split_and}
-use Rattle.vlog_tokens.proofs.Scanning.{IsPassed, IsScan, scan_is}
+use Rattle.vlog_tokens.proofs.Scanning.{IsScan, scan_is}
 use Rattle.token_text.specs.Printing.{texts, ends_line, space_before, feed_behind, printed_from, printed}
 use Rattle.token_text.specs.Again.{IsGood, AreTokens, DividesInto}
 use Rattle.token_text.proofs.Solid.{all_mono, all_append, all_back, is_solid, token_solid}
@@ -59,7 +59,7 @@ reads (t ∷ ts) a is_fresh from at =
     let last : Bool = ends_line t in
     spaced is_fresh from at (t ++ (feed_behind (ends_line t) ++ printed_from (ends_line t) ts)) (t ∷ ts)
     (λ from at. here t ts (feed_behind (ends_line t) ++ printed_from (ends_line t) ts) from at a.0 (ended (ends_line t) ts)
-      (fed (ends_line t) (from + length t) (past at t) (printed_from (ends_line t) ts) ts (reads ts a.1 (ends_line t))))
+    (fed (ends_line t) (from + length t) (past at t) (printed_from (ends_line t) ts) ts (reads ts a.1 (ends_line t))))
 
 -- ---- no backquote
 

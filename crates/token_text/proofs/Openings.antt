@@ -1,12 +1,11 @@
 -- Where a token stands before a blank or the end of the text, it is read as that token.
-use Rattle.std.proofs.Common.{◌≡◌, ℕ, ◌==◌, Bool, true, false, not, ◌&&◌, if◌then◌else◌, ◌⊎◌, inl, inr, List, [], ◌∷◌, ◌++◌, is_some, drop, refl, sym, ◌∙◌, ap, subst}
+use Rattle.std.proofs.Common.{◌≡◌, ℕ, ◌==◌, Bool, true, false, not, ◌&&◌, if◌then◌else◌, inl, inr, List, [], ◌∷◌, ◌++◌, drop, refl, sym, ◌∙◌, ap, subst}
 use Rattle.std.specs.List.{list_all}
 use Rattle.std.proofs.lemmas.Bool.Decides.{eqb_tells}
-use Rattle.vlog_tokens.specs.declared.gap.Opening.{Opening}
 use Rattle.vlog_tokens.specs.declared.gap.Opening.TheVariants.{Blank, Line, Block, Attribute, Other}
-use Rattle.vlog_tokens.specs.Bytes.{is_blank, begins_name, is_decimal, radix_of, is_digit_of}
+use Rattle.vlog_tokens.specs.Bytes.{is_blank, begins_name, is_decimal}
 use Rattle.vlog_tokens.specs.Numbers.{or_underscore, is_digits}
-use Rattle.vlog_tokens.specs.Words.{mark, marks}
+use Rattle.vlog_tokens.specs.Words.{marks}
 use Rattle.vlog_tokens.specs.Gaps.{begins_with, begins_with_both, behind_blanks, opens_attribute, opening_of_solid, opening}
 use Rattle.vlog_tokens.specs.Tokens.{is_size, IsToken, name, system, sign, decimal, based, IsLongest}
 use Rattle.vlog_tokens.proofs.Tests.{differ, split_and}
@@ -92,18 +91,18 @@ settled_opens [] back s e = absurd (differ false s refl)
 settled_opens (b ∷ []) back s e =
     no_blank_first b back (not_true (is_blank b) s)
     ∙ opens_other (b ∷ back)
-      (and_not (b == 47) (begins_with 47 back) (begins_not 47 back refl e))
-      (and_not (b == 47) (begins_with 42 back) (begins_not 42 back refl e))
-      (and_not (b == 40) (begins_with 42 back) (begins_not 42 back refl e))
+    (and_not (b == 47) (begins_with 47 back) (begins_not 47 back refl e))
+    (and_not (b == 47) (begins_with 42 back) (begins_not 42 back refl e))
+    (and_not (b == 40) (begins_with 42 back) (begins_not 42 back refl e))
 settled_opens (b ∷ c ∷ cs) back s e =
     let both = split_and (not (is_blank b) && not (b == 47)) (not (b == 40)) s in
     let front = split_and (not (is_blank b)) (not (b == 47)) both.0 in
     let slash = not_true (b == 47) front.1 in
     no_blank_first b (c ∷ (cs ++ back)) (not_true (is_blank b) front.0)
     ∙ opens_other (b ∷ c ∷ (cs ++ back))
-      (not_and (b == 47) (c == 47) slash)
-      (not_and (b == 47) (c == 42) slash)
-      (not_and (b == 40) (c == 42) (not_true (b == 40) both.1))
+    (not_and (b == 47) (c == 47) slash)
+    (not_and (b == 47) (c == 42) slash)
+    (not_and (b == 40) (c == 42) (not_true (b == 40) both.1))
 
 pub token_opens : (t back : List ℕ) → IsToken t → ends_here back ≡ true → opening (t ++ back) ≡ Other
 token_opens t back k e = settled_opens t back (token_settled t k) e

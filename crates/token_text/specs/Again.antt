@@ -1,5 +1,5 @@
 -- A text that divides into tokens with given bytes, wherever they stand.
-use Rattle.std.specs.Prelude.{◌≡◌, ℕ, Bool, false, List, [], ◌∷◌, Ok}
+use Rattle.std.specs.Prelude.{◌≡◌, ℕ, false, List, [], ◌∷◌, Ok}
 use Rattle.vlog_tokens.specs.Tokens.{Token, IsToken}
 use Rattle.vlog_tokens.specs.Reads.{is_bad_number}
 use Rattle.vlog_tokens.specs.Directives.{LexAnswers}
