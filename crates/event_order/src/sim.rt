@@ -59,6 +59,8 @@ impl<'a> EventSim<'a> {
         ensures fresh { IfOk result (λ s. s.is_fresh ≡ true) }
         ensures held { IfOk result (λ s. s.held ≡ started legal.now.design start.now) }
         ensures registers { IfOk result (λ s. registers_in legal.now.design s.held ≡ start.now) }
+        ensures settled { IfOk result (λ s. s.settled ≡ s.held) }
+        ensures turns { IfOk result (λ s. s.turns ≡ 0) }
     {
         Ok(EventSim {
             legal,

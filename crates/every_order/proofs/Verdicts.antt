@@ -36,4 +36,6 @@ module _ (d : Design) (legal : IsLegal d []) where
   told cert c (p, there, name, h) = (p, there, name, here cert p c.verdict h)
 
 pub true_in_every_order : TrueInEveryOrder
-true_in_every_order tree cert claims (d, is, names, all) = (d, is, names, λ k c lt. told d (text_design_is_legal tree cert.setup d is.design) cert (get_or claims k c) (all k c lt))
+true_in_every_order tree cert claims (d, is, names, all) =
+    let legal : IsLegal d [] = text_design_is_legal tree cert.setup d is.design in
+    (d, is, stimulus_runs d [] legal cert.setup, names, λ k c lt. told d legal cert (get_or claims k c) (all k c lt))

@@ -2,7 +2,9 @@
 use Rattle.std.specs.Prelude.{ℕ, Bool, ◌≡◌, List, map, All, Contains}
 use Rattle.vlog_tree.specs.declared.Tree.{Tree}
 use Rattle.design_core.specs.declared.flat.Design.{Design}
+use Rattle.design_core.specs.declared.setup.Setup.{Setup}
 use Rattle.design_core.specs.declared.setup.Stimulus.{Stimulus}
+use Rattle.design_core.specs.Runs.{Fits}
 use Rattle.cert_text.specs.declared.cert.Cert.{Cert}
 use Rattle.cert_text.specs.declared.cert.CertClaim.{CertClaim}
 use Rattle.cert_text.specs.declared.cert.Body.TheVariants.{Reached}
@@ -25,10 +27,14 @@ IsTrueInEveryOrder d cert p (verdicts.Reached cycle) =
 IsTrueInEveryOrder d cert p verdicts.Excluded = MachineNever d cert.setup (hit_by d p.test)
 IsTrueInEveryOrder d cert p (verdicts.Open cycles) = MachineNotWithin d cert.setup (hit_by d p.test) cycles
 
--- the claims are for exactly the points of the text's design, in order, and each is true in every order of processes
+-- Each stimulus that fits has a run, so that nothing is true for want of runs.
+abbrev pub HasRuns : Design → Setup → Type 0
+HasRuns d setup = (s : Stimulus) → Fits d setup s → (vs : List (List Bool)) × IsMachineRun d s vs
+
+-- The claims are for exactly the points of the text's design, in order, and each is true in every order of processes. The design has runs.
 abbrev pub AreTrueInEveryOrder : Tree → Cert → List Claim → Type 0
 AreTrueInEveryOrder tree cert claims =
-    (d : Design) × IsElaborated tree cert.setup d
+    (d : Design) × IsElaborated tree cert.setup d × HasRuns d cert.setup
     × (map (λ (c : Claim). c.point) claims ≡ map (λ (p : Point). p.name) (points_of d cert.setup))
     × All (λ (c : Claim). (p : Point) × Contains (points_of d cert.setup) p × (p.name ≡ c.point) × IsTrueInEveryOrder d cert p c.verdict) claims
 
