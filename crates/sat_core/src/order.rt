@@ -1,5 +1,5 @@
 //! In which order variables are decided, and how.
-ghost use Rattle.std.specs.Prelude.{◌≡◌, ◌+◌, ◌≤◌, vec_len, IfOk, IfSome};
+ghost use Rattle.std.specs.Prelude.{◌≡◌, ◌+◌, ◌≤◌, vec_len, IfOk, OnOk, OnErr, IfSome};
 ghost use Rattle.sat_core.specs.Trailed.{IsFree};
 
 use crate::trail::Trail;
@@ -18,6 +18,21 @@ const GREATEST: u32 = (1 << 31) - 1;
 
 /// How many binary digits they lose then.
 const LOST_DIGITS: u32 = 40;
+
+/// A copy of a list that has `places` items: more of the same item stand behind, or the last ones are left out.
+fn resized<T: Copy + Drop>(
+    alloc: Global,
+    items: &[T],
+    more: T,
+    places: usize,
+) -> Result<Vec<T>, Memory>
+    ensures { IfOk result (λ v. vec_len v ≡ places) }
+{
+    let mut copies = Vec::new(alloc);
+    copies.extend_from_slice(items)?;
+    copies.resize(places, more)?;
+    Ok(copies)
+}
 
 /// The activity of each variable, which grows where the variable takes part in a conflict, and the value that it had last.
 ///
@@ -49,6 +64,21 @@ impl Order {
             waiting: BinaryHeap::new(alloc),
             is_stale: true,
         })
+    }
+
+    /// Has room for the variables up to `vars`. Those that were there keep their activity and value.
+    pub fn grow(&mut self, alloc: Global, vars: u32) -> Result<(), Memory>
+        ensures ok { OnOk result (self.new.vars ≡ vars) }
+        ensures err { OnErr result (self.new.vars ≡ self.old.vars) }
+    {
+        let places = vars as usize + 1;
+        let activities = resized(alloc, &self.activities, 0, places)?;
+        let values = resized(alloc, &self.values, false, places)?;
+        self.vars = vars;
+        self.activities = activities;
+        self.values = values;
+        self.is_stale = true;
+        Ok(())
     }
 
     /// Has the next decision look at all variables again.

@@ -140,6 +140,25 @@ impl Search {
         Ok(number)
     }
 
+    /// Has room for the variables up to `vars`. The clauses stay, and what was made true is forgotten.
+    pub fn grow(&mut self, vars: u32) -> Result<(), Memory>
+        requires { vars_in self.old ≤ vars }
+        ensures ok { OnOk result (vars_in self.new ≡ vars) }
+        ensures err { OnErr result (vars_in self.new ≡ vars_in self.old) }
+        ensures clauses { self.new.clauses ≡ self.old.clauses }
+        ensures added { self.new.added ≡ self.old.added }
+    {
+        let trail = Trail::make(self.alloc, vars)?;
+        let seen = Assignment::make(self.alloc, vars)?;
+        let watches = Watches::make(self.alloc, vars)?;
+        self.order.grow(self.alloc, vars)?;
+        self.trail = trail;
+        self.seen = seen;
+        self.watches = watches;
+        self.done = 0;
+        Ok(())
+    }
+
     /// Forgets what was learnt, and makes the assumptions true.
     pub fn begin(&mut self, assumptions: &[Lit]) -> Result<(), Memory>
         requires { HasGoodVars (vars_in self.old) assumptions.now }

@@ -66,6 +66,20 @@ impl<P: ProofSink + Drop> Solver<P> {
         self.search.add(clause)
     }
 
+    /// Has the variables up to `vars`, which are no fewer than before. The clauses stay, also those learnt.
+    ///
+    /// It takes time and memory in the number of variables. After want of memory the solver is as before.
+    pub fn grow(&mut self, vars: u32) -> Result<(), Memory>
+        requires { vars_of self.old ≤ vars }
+        ensures ok { OnOk result (vars_of self.new ≡ vars) }
+        ensures err { OnErr result (vars_of self.new ≡ vars_of self.old) }
+        ensures added { added_to self.new ≡ added_to self.old }
+        ensures learnt { learnt_by self.new ≡ learnt_by self.old }
+        ensures sink { sink_of self.new ≡ sink_of self.old }
+    {
+        self.search.grow(vars)
+    }
+
     /// Looks for values that make each clause and each assumption true, and gives up at `limit` counted conflicts.
     ///
     /// The assumptions are made true before any decision. A conflict counts where it comes with a decision: it gives
