@@ -1,0 +1,2 @@
+//! Syntax trees, written as texts.
+#![tactic(auto)]
