@@ -1,0 +1,5 @@
+pub mod Operators
+pub mod Values
+pub mod Formed
+pub mod Cost
+pub mod Updates

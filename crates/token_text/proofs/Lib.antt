@@ -1,0 +1,4 @@
+pub mod Writing
+pub mod Solid
+pub mod Openings
+pub mod Dividing
