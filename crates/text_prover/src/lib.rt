@@ -10,6 +10,3 @@ mod proving;
 
 pub use laws::law_accepted_certs_are_accepted;
 pub use proving::{Proven, prove_text};
-
-#[cfg(test)]
-mod tests;

@@ -14,8 +14,5 @@ mod words;
 
 pub use engine::run;
 
-#[cfg(test)]
-mod tests;
-
 /// The most bytes of FILE that are loaded: one more than a source may have, so that a longer one is seen.
 pub const SOURCE_MOST: u64 = 4_194_305;

@@ -1,9 +1,9 @@
-// Runs over a desk and sinks in memory.
-use crate::run;
+// The command `check`.
+use crate::tests::running::{lines, run_over};
 use std::alloc::{AllocError, Global};
 use std::process::Abort;
 use std::test::Fail as TestFail;
-use unr_io::{Fail, Files, MemDesk, MemSink};
+use unr_io::{Fail, Files};
 
 const TEXT: &[u8] =
     b"module t(input clk, input a, output reg q); always @(posedge clk) q <= a; endmodule";
@@ -101,20 +101,6 @@ struct Case<'a> {
     calls: usize,
 }
 
-fn fails_at(alloc: Global, call: u32) -> Result<Vec<Fail>, AllocError> {
-    let mut fails = Vec::new(alloc);
-    fails.push(Fail { call, kept: 3 })?;
-    Ok(fails)
-}
-
-fn lines(alloc: Global, cert: &str) -> Result<Vec<u8>, AllocError> {
-    let mut bytes = Vec::new(alloc);
-    for byte in cert.as_bytes() {
-        bytes.push(if *byte == b'|' { b'\n' } else { *byte })?;
-    }
-    Ok(bytes)
-}
-
 // The certificate with other lines in the place of those from `first` to `last`, counted from 1.
 fn changed(
     alloc: Global,
@@ -137,28 +123,22 @@ fn changed(
     Ok(text)
 }
 
-fn words_of(alloc: Global, words: &str) -> Result<Vec<String>, AllocError> {
-    let mut list = Vec::new(alloc);
-    for word in words.split_whitespace() {
-        list.push(String::from_str(alloc, word)?)?;
-    }
-    Ok(list)
+// That call fails, and keeps three bytes.
+fn fails_at(call: u32) -> Fail {
+    Fail { call, kept: 3 }
 }
 
 fn try_case(rt: &impl Abort, alloc: Global, case: &Case<'_>) -> Result<(), TestFail> {
     let mut files = Files::new(alloc);
     files.set(alloc, "t.v", case.text)?;
     files.set(alloc, "t.cert", &lines(alloc, case.cert)?)?;
-    let words = words_of(alloc, case.words)?;
     let [desk, out, err] = case.fails;
-    let mut desk = MemDesk::make(alloc, files, fails_at(alloc, desk)?);
-    let mut out = MemSink::make(alloc, fails_at(alloc, out)?);
-    let mut err = MemSink::make(alloc, fails_at(alloc, err)?);
-    let status = run(alloc, &words, &mut desk, &mut out, &mut err);
-    assert_eq!(rt; err.bytes(), case.err);
-    assert_eq!(rt; out.bytes(), case.out);
-    assert_eq!(rt; status, case.status);
-    assert_eq!(rt; desk.calls().len(), case.calls);
+    let fails = [fails_at(desk), fails_at(out), fails_at(err)];
+    let ran = run_over(alloc, case.words, files, fails)?;
+    assert_eq!(rt; ran.err.bytes(), case.err);
+    assert_eq!(rt; ran.out.bytes(), case.out);
+    assert_eq!(rt; ran.status, case.status);
+    assert_eq!(rt; ran.desk.calls().len(), case.calls);
     Ok(())
 }
 

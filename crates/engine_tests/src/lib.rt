@@ -1,0 +1,5 @@
+//! Tests of the calls that do what the tool's words say. They stand in a crate of their own, since a crate that has tests is proved twice.
+#![tactic(auto)]
+
+#[cfg(test)]
+mod tests;
