@@ -1,0 +1,5 @@
+pub mod Grown
+pub mod Inverse
+pub mod Renamed
+pub mod Whole
+pub mod Names
