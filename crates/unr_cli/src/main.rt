@@ -1,14 +1,12 @@
 //! The program: the engine over real files, standard output and standard error.
 #![tactic(auto)]
 
-mod host;
-
-use host::{FileDesk, WriterSink};
 use std::alloc::{AllocError, Global};
 use std::env;
 use std::io::{self, ErrorKind};
 use std::process::ExitCode;
 use unr_engine::run;
+use unr_host::{FileDesk, WriterSink};
 
 // The words after the program's name.
 fn words(rt: &HostRuntime, alloc: Global) -> io::Result<Vec<String>> {

@@ -32,7 +32,7 @@ fn read_front<R: Files>(files: &R, alloc: Global, name: &str, max: u64) -> io::R
 }
 
 impl<'a, R: Files> Desk for FileDesk<'a, R> {
-    ghost use Rattle.unr_cli.specs.Host.{untold_desk};
+    ghost use Rattle.unr_host.specs.Host.{untold_desk};
 
     ghost state = { λ d. untold_desk d.faults };
 
@@ -84,7 +84,7 @@ fn write_out<W: Write>(writer: &mut W, bytes: &[u8]) -> io::Result<()> {
 }
 
 impl<W: Write + Drop> Sink for WriterSink<W> {
-    ghost use Rattle.unr_cli.specs.Host.{untold_sink};
+    ghost use Rattle.unr_host.specs.Host.{untold_sink};
 
     ghost state = { λ s. untold_sink s.faults s.refusals };
 
