@@ -11,6 +11,7 @@ pub mod Quiet
 pub mod Models
 pub mod Sets
 pub mod Settled
+pub mod Shortened
 pub mod Shows
 pub mod Steps
 pub mod Trails

@@ -1,5 +1,5 @@
 -- What two watched literals of a clause say of it.
-use Rattle.std.proofs.Common.{◌≡◌, ℕ, ◌+◌, ◌-◌, ◌<◌, ◌≤◌, Bool, true, false, not, ◌||◌, ◌⊎◌, inl, inr, List, [], ◌∷◌, ◌++◌, length, get_or, set, take, drop, refl, sym, ap, ◌∙◌, arith, length-set, length-append, get_or-set_same, get_or-set_other}
+use Rattle.std.proofs.Common.{◌≡◌, ℕ, ◌+◌, ◌-◌, ◌<◌, ◌≤◌, Bool, true, false, cond, not, ◌||◌, ◌⊎◌, inl, inr, List, [], ◌∷◌, ◌++◌, length, get_or, set, take, drop, refl, sym, ap, ◌∙◌, arith, length-set, length-append, get_or-set_same, get_or-set_other}
 use Rattle.std.specs.Prelude.{All}
 use Rattle.std.proofs.lemmas.Bool.{cases_eq}
 use Rattle.std.proofs.lemmas.List.{length-take, take-append-drop, drop_more, get_or_default, get_or-take}
@@ -125,18 +125,29 @@ in-take xs n i h inside =
     let short : i < length (take n xs) = omega (arith, length-take n xs) in
     ap (is_false (take n xs)) (sym (get_or-take n xs i no_literal h)) ∙ in-at (take n xs) i short
 
--- the first literal that isn't false, and the second
+-- the last literal that isn't false, and the one before it
 pub AreOpen-scan :
-    (fs c : List Literal) (i : ℕ) (pair : Pair) → i < length c → open_lits fs (take i c) ≡ pair.first ∷ [] → pair.second ≡ get_or c i no_literal →
-    is_false fs pair.second ≡ false → AreOpen fs c pair
+    (fs c : List Literal) (i : ℕ) (pair : Pair) → i < length c → open_lits fs (drop (i + 1) c) ≡ pair.second ∷ [] → pair.first ≡ get_or c i no_literal →
+    is_false fs pair.first ≡ false → AreOpen fs c pair
 AreOpen-scan fs c i pair h one same e =
-    let here : is_false (open_lits fs (take i c)) pair.first ≡ true = rw one (ap (λ b. b || false) (same-refl pair.first)) in
-    let both = open_lits-in fs (take i c) pair.first here in
+    let here : is_false (open_lits fs (drop (i + 1) c)) pair.second ≡ true = rw one (ap (λ b. b || false) (same-refl pair.second)) in
+    let both = open_lits-in fs (drop (i + 1) c) pair.second here in
     record {
-      two = IsPair-split (take i c) (drop i c) c pair (take-append-drop i c) both.0 (rw same (in-drop c i h));
-      first_open = both.1;
-      second_open = e;
+      two = IsPair-split (take (i + 1) c) (drop (i + 1) c) c pair (take-append-drop (i + 1) c) (rw same (in-take c (i + 1) i (omega arith) h)) both.0;
+      first_open = e;
+      second_open = both.1;
     }
+
+-- one more literal before those that were looked at
+pub open_lits-drop :
+    (fs c : List Literal) (i : ℕ) (l : Literal) → i < length c → l ≡ get_or c i no_literal →
+    open_lits fs (drop i c) ≡ cond (is_false fs l) (open_lits fs (drop (i + 1) c)) (l ∷ open_lits fs (drop (i + 1) c))
+open_lits-drop fs c i l h same =
+    ap (open_lits fs) (drop_more c i no_literal h ∙ ap (λ x. x ∷ drop (i + 1) c) (sym same)) ∙ by_test (is_false fs l) (open_lits fs (drop (i + 1) c))
+  where
+    by_test : (b : Bool) (ls : List Literal) → cond (not b) (l ∷ ls) ls ≡ cond b ls (l ∷ ls)
+    by_test true ls = refl
+    by_test false ls = refl
 
 pub IsPair-ends : (c : List Literal) → 2 ≤ length c → IsPair c (ends_of c)
 IsPair-ends c h =

@@ -1,12 +1,13 @@
 //! Conflict analysis: the falsified clause is resolved with the reasons of the trail, from its end on.
 ghost use Rattle.std.specs.Bool.{OnTrue};
-ghost use Rattle.std.specs.Prelude.{◌≡◌, ℕ, ◌+◌, ◌<◌, ◌≤◌, ◌||◌, true, List, All, length, take, drop, filter, reverse, IfOk, OnOk, IsSome, MatchOption, None};
+ghost use Rattle.std.specs.Prelude.{◌≡◌, ℕ, ◌+◌, ◌<◌, ◌≤◌, ◌||◌, ◌⊎◌, true, List, All, length, take, drop, filter, reverse, IfOk, OnOk, IsSome, MatchOption, None};
 ghost use Rattle.cnf_core.specs.Literal.{Literal, HaveVarsUpTo};
 ghost use Rattle.cnf_core.specs.Lrat.{is_false, numbered};
-ghost use Rattle.sat_core.specs.Closing.{Closing, IsShown};
+ghost use Rattle.sat_core.specs.Closing.{Closing, Within, IsShown, left_over};
 ghost use Rattle.sat_core.specs.Trailed.{Good, IsConflict, falsified_at, reason_at, AreImplied, IsLastDecision, seen_from};
 
 use crate::assignment::Assignment;
+use crate::order::Order;
 use crate::trail::Trail;
 use cnf_core::{Clauses, Lit, Memory};
 use std::alloc::Global;
@@ -179,6 +180,108 @@ fn resolve_to_one(
     Ok(at)
 }
 
+/// Notes that the seen variables took part in a conflict.
+fn bump_all(order: &mut Order, seen: &Assignment)
+    requires { seen.now.vars ≡ order.old.vars }
+    ensures { order.new.vars ≡ order.old.vars }
+{
+    for at in 0..seen.len() {
+        order.bump(seen.get(at).variable());
+    }
+    order.decay();
+}
+
+/// Whether a literal is seen, or has this variable.
+fn is_seen_or_of(seen: &Assignment, literal: Lit, variable: u32) -> bool
+    requires { literal.variable ≤ seen.now.vars }
+    ensures { OnTrue result ((is_false seen.now.falses literal ≡ true) ⊎ (literal.variable ≡ variable)) }
+{
+    if seen.is_false(literal) {
+        return true;
+    }
+    literal.variable() == variable
+}
+
+/// Whether a clause has seen literals alone, but for those of a variable.
+fn is_covered(seen: &Assignment, clause: &[Lit], variable: u32) -> bool
+    requires { All (λ l. l.variable ≤ seen.now.vars) clause.now }
+    ensures { OnTrue result (All (λ l. (is_false seen.now.falses l ≡ true) ⊎ (l.variable ≡ variable)) clause.now) }
+{
+    for literal in clause {
+        if !is_seen_or_of(seen, *literal, variable) {
+            return false;
+        }
+    }
+    true
+}
+
+/// Keeps the literal at a place, where it is seen. It is left out where its reason has further seen literals alone.
+fn keep(
+    clauses: &Clauses,
+    trail: &Trail,
+    seen: &Assignment,
+    kept: &mut Vec<Lit>,
+    hints: &mut Vec<u64>,
+    at: usize,
+) -> Result<(), Memory>
+    requires vars { HaveVarsUpTo trail.now.vars clauses.now }
+    requires good { Good clauses.now trail.now }
+    requires same_vars { seen.now.vars ≡ trail.now.vars }
+    requires there { at < length trail.now.falses }
+    ensures within { OnOk result (All (λ l. l.variable ≤ trail.now.vars) kept.old.items
+        → All (λ l. l.variable ≤ trail.now.vars) kept.new.items) }
+    ensures seen { OnOk result (Within kept.old.items seen.now.falses → Within kept.new.items seen.now.falses) }
+    ensures closing { OnOk result ((to : ℕ) → at < to → Closing (numbered 1 clauses.now) (take to trail.now.falses)
+        (left_over seen.now.falses (take (at + 1) trail.now.falses) kept.old.items) (reverse hints.old.items)
+        → Closing (numbered 1 clauses.now) (take to trail.now.falses)
+        (left_over seen.now.falses (take at trail.now.falses) kept.new.items) (reverse hints.new.items)) }
+{
+    let literal = trail.falsified(at);
+    if !seen.is_false(literal) {
+        return Ok(());
+    }
+    if let Some(reason) = trail.reason(at) {
+        if is_covered(seen, clauses.get(reason), literal.variable()) {
+            let id = number(clauses, reason);
+            hints.push(id)?;
+            return Ok(());
+        }
+    }
+    kept.push(literal)?;
+    Ok(())
+}
+
+/// Leaves out of the seen literals of the trail's first `to` those whose reasons have further seen ones alone.
+fn shorten(
+    alloc: Global,
+    clauses: &Clauses,
+    trail: &Trail,
+    seen: &mut Assignment,
+    hints: &mut Vec<u64>,
+    to: usize,
+) -> Result<(), Memory>
+    requires vars { HaveVarsUpTo trail.now.vars clauses.now }
+    requires good { Good clauses.now trail.now }
+    requires same_vars { seen.old.vars ≡ trail.now.vars }
+    requires there { to ≤ length trail.now.falses }
+    ensures same_vars { seen.new.vars ≡ seen.old.vars }
+    ensures fewer { OnOk result (Within seen.new.falses seen.old.falses) }
+    ensures closing { OnOk result (Closing
+        (numbered 1 clauses.now) (take to trail.now.falses) seen.old.falses (reverse hints.old.items)
+        → Closing (numbered 1 clauses.now) (take to trail.now.falses) seen.new.falses
+        (reverse hints.new.items)) }
+{
+    let mut kept = Vec::new(alloc);
+    let mut at = to;
+    while at > 0 {
+        at -= 1;
+        keep(clauses, trail, seen, &mut kept, hints, at)?;
+    }
+    seen.clear();
+    mark(seen, &kept);
+    Ok(())
+}
+
 /// The seen literals of the trail's first `to`.
 fn collect(alloc: Global, trail: &Trail, seen: &Assignment, to: usize) -> Result<Vec<Lit>, Memory>
     requires good_vars { All (λ l. l.variable ≤ seen.now.vars) trail.now.falses }
@@ -218,22 +321,25 @@ fn begin(
     Ok(hints)
 }
 
-/// A clause that the conflict shows, with at most one literal from the decision on.
+/// A clause that the conflict shows, with at most one literal from the decision on. Those that follow from its others are left out.
 pub fn explain(
     alloc: Global,
     clauses: &Clauses,
     trail: &Trail,
     seen: &mut Assignment,
+    order: &mut Order,
     conflict: usize,
     decision: usize,
 ) -> Result<Explained, Memory>
     requires vars { HaveVarsUpTo trail.now.vars clauses.now }
     requires good { Good clauses.now trail.now }
     requires same_vars { seen.old.vars ≡ trail.now.vars }
+    requires ordered_vars { order.old.vars ≡ trail.now.vars }
     requires conflict { IsConflict clauses.now trail.now.falses conflict }
     requires there { decision < length trail.now.falses }
     requires implied { AreImplied trail.now (decision + 1) }
     ensures same_vars { seen.new.vars ≡ seen.old.vars }
+    ensures ordered_vars { order.new.vars ≡ order.old.vars }
     ensures shown { IfOk result (λ e. IsShown trail.now.vars clauses.now e.shown.lits.items
         e.shown.hints.items) }
     ensures lits { IfOk result (λ e. e.shown.lits.items
@@ -244,6 +350,8 @@ pub fn explain(
 {
     let mut hints = begin(alloc, clauses, trail, seen, conflict)?;
     let to = resolve_to_one(clauses, trail, seen, &mut hints, decision)?;
+    bump_all(order, seen);
+    shorten(alloc, clauses, trail, seen, &mut hints, to)?;
     hints.reverse();
     let lits = collect(alloc, trail, seen, to)?;
     Ok(Explained {

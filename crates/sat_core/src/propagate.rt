@@ -21,21 +21,26 @@ pub enum Open {
     Two(Pair),
 }
 
-/// How many literals of a clause aren't false, and the first two of them.
+/// How many literals of a clause aren't false, and the last two of them.
+///
+/// It looks from the end on: there a learnt clause has the literals that were the last to become false.
 pub fn scan(trail: &Trail, clause: &[Lit]) -> Open
     requires { All (λ l. l.variable ≤ trail.now.vars) clause.now }
     ensures { IsOpen trail.now.falses clause.now result }
 {
     let mut only: Option<Lit> = None;
-    for literal in clause {
-        if !trail.is_false(*literal) {
-            if let Some(first) = only {
+    let mut at = clause.len();
+    while at > 0 {
+        at -= 1;
+        let literal = clause[at];
+        if !trail.is_false(literal) {
+            if let Some(second) = only {
                 return Open::Two(Pair {
-                    first,
-                    second: *literal,
+                    first: literal,
+                    second,
                 });
             }
-            only = Some(*literal);
+            only = Some(literal);
         }
     }
     match only {

@@ -1,5 +1,5 @@
 //! The search, one step at a time.
-ghost use Rattle.std.specs.Prelude.{◌≡◌, ℕ, true, ◌+◌, ◌*◌, ◌<◌, ◌≤◌, [], ◌∷◌, ◌++◌, List, All, length, map, IfOk, OnOk, OnErr, MatchOption};
+ghost use Rattle.std.specs.Prelude.{◌≡◌, ℕ, true, ◌+◌, ◌*◌, ◌<◌, ◌≤◌, [], ◌∷◌, ◌++◌, List, All, length, map, take, IfOk, OnOk, OnErr, MatchOption};
 ghost use Rattle.cnf_core.specs.Literal.{Literal, HaveVarsUpTo, negated};
 ghost use Rattle.cnf_core.specs.Lrat.{HasGoodVars};
 ghost use Rattle.sat_core.specs.Propagation.{IsComplete};
@@ -52,6 +52,13 @@ pub enum Step {
     Satisfied,
 }
 
+/// Leaves the added clauses alone.
+fn forget_learnt(clauses: &mut Clauses, added: usize)
+    ensures { clauses.new ≡ take added clauses.old }
+{
+    clauses.truncate(added);
+}
+
 /// Makes the assumptions true on an empty trail.
 fn assume(trail: &mut Trail, assumptions: &[Lit]) -> Result<(), Memory>
     requires empty { trail.old.falses ≡ [] }
@@ -80,17 +87,6 @@ fn choose(clauses: &Clauses, order: &mut Order, trail: &Trail) -> Result<Option<
         return Ok(Some(literal));
     }
     Ok(pick(clauses, trail))
-}
-
-/// Notes that the seen variables took part in a conflict.
-fn bump_all(order: &mut Order, seen: &Assignment)
-    requires { seen.now.vars ≡ order.old.vars }
-    ensures { order.new.vars ≡ order.old.vars }
-{
-    for at in 0..seen.len() {
-        order.bump(seen.get(at).variable());
-    }
-    order.decay();
 }
 
 /// Notes that the literals of the trail from a place on are no longer false.
@@ -134,7 +130,7 @@ impl Search {
         ensures ok { OnOk result (added_in self.new ≡ added_in self.old ++ clause.now ∷ []) }
         ensures err { OnErr result (added_in self.new ≡ added_in self.old) }
     {
-        self.clauses.truncate(self.added);
+        forget_learnt(&mut self.clauses, self.added);
         let number = self.clauses.push(clause)?;
         self.added = self.clauses.len();
         Ok(number)
@@ -167,7 +163,7 @@ impl Search {
         ensures clauses { self.new.clauses ≡ added_in self.old }
         ensures begun { OnOk result (Searched assumptions.now self.new) }
     {
-        self.clauses.truncate(self.added);
+        forget_learnt(&mut self.clauses, self.added);
         self.watches.clear();
         self.done = 0;
         self.order.restart();
@@ -212,10 +208,10 @@ impl Search {
             &self.clauses,
             &self.trail,
             &mut self.seen,
+            &mut self.order,
             conflict,
             decision,
         )?;
-        bump_all(&mut self.order, &self.seen);
         let cut = place_to_go_on(
             &self.clauses,
             &self.trail,

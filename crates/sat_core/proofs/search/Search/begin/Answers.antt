@@ -8,7 +8,7 @@ returns-clause-begun c =
     let long = length-map c.args.assumptions.now negated in
     let all : length (map negated c.args.assumptions.now) ≤ length c.args.assumptions.now = omega arith in
     record {
-      good = c.in_ok-assume.ensures.good c.truncate.new.self;
+      good = c.in_ok-assume.ensures.good c.forget_learnt.new.clauses;
       long = rw c.in_ok-assume.ensures.assumed (omega arith);
       settled = λ d low h e.
           let inside : d < length (map negated c.args.assumptions.now) = rw c.in_ok-assume.ensures.assumed at h in
