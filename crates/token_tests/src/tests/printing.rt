@@ -8,7 +8,10 @@ const TEXTS: [(&[u8], &[u8]); 4] = [
     (b"", b""),
     (b"a/*x*/<=8'hF_f;", b"a <= 8'hF_f ;\n"),
     (b"(*)< =(* z *)-  >", b"( * ) < = - >"),
-    (b"module m;;endmodule endmodule m", b"module m ;\n;\nendmodule\nendmodule\nm"),
+    (
+        b"module m;;endmodule endmodule m",
+        b"module m ;\n;\nendmodule\nendmodule\nm",
+    ),
 ];
 
 #[test]
