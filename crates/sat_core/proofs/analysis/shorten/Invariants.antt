@@ -1,4 +1,4 @@
-use Rattle.std.proofs.Common.{◌≡◌, ◌≤◌, length, take}
+use Rattle.std.proofs.Common.{◌≤◌, take}
 use Rattle.std.specs.Prelude.{All, reverse}
 use Rattle.cnf_core.specs.Lrat.{numbered}
 use Rattle.sat_core.specs.Closing.{Closing, Within, left_over}
