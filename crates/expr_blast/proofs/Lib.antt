@@ -1,0 +1,6 @@
+pub mod Composition
+pub mod WordLaws
+pub mod SelectLaws
+pub mod ExprLaws
+pub mod Steps
+pub mod ExprForms

@@ -1,0 +1,4 @@
+pub mod Words
+pub mod Selects
+pub mod Circuits
+pub mod Meaning
