@@ -1,7 +1,0 @@
-use Rattle.std.proofs.Common.{◌≡◌, ◌++◌, ◌-◌, map}
-use Rattle.word_core.specs.Words.{bits_of}
-use Rattle.expr_blast.specs.Words.{constant}
-use Rattle.expr_blast.proofs.words.constants.Given as goal
-
-abbrev pub invariant-loop : goal.invariant-loop
-invariant-loop l = l.literals.items ++ map constant (bits_of (l.word.width - l.counter) l.rest) ≡ map constant (bits_of l.word.width l.word.bits)

@@ -1,4 +1,0 @@
-pub mod Words
-pub mod Selects
-pub mod Circuits
-pub mod Meaning
