@@ -6,7 +6,7 @@ use Rattle.bit_exprs.specs.declared.forms.UnaryOp.{UnaryOp}
 use Rattle.bit_exprs.specs.declared.forms.UnaryOp.TheVariants as one
 use Rattle.bit_exprs.specs.declared.forms.BinaryOp.{BinaryOp}
 use Rattle.bit_exprs.specs.declared.forms.BinaryOp.TheVariants.{Add, Sub, Mul, And, Or, Xor, Xnor, Equal, NotEqual, Less, LessEqual, Greater, GreaterEqual, Shl, Shr, Join}
-use Rattle.bit_exprs.specs.Values.{first, width_of, widths_of}
+use Rattle.bit_exprs.specs.Values.{width_of, operand_width}
 
 -- or the greatest number of 64 bits, where it is less
 abbrev pub capped : ℕ → ℕ
@@ -53,17 +53,17 @@ abbrev mutual
   pub cost_of : Expr → ℕ
   cost_of (Const word signed) = 0
   cost_of (Read bits) = 0
-  cost_of (Select' vector window p index) = costs_of index + window.count * length vector * (first (widths_of index) + 2)
-  cost_of (Unary' op p a) = costs_of a + unary_cost op (first (widths_of a))
-  cost_of (Binary' op p a q b) = costs_of a + costs_of b + binary_cost op (first (widths_of a)) (first (widths_of b))
-  cost_of (Choose' p test q a r b) = costs_of test + costs_of a + costs_of b + (3 * first (widths_of a) + first (widths_of test))
-  cost_of (Logical' and chain shape all) = costs_of all + tests_of all
+  cost_of (Select' vector window p index) = operand_cost index + window.count * length vector * (operand_width index + 2)
+  cost_of (Unary' op p a) = operand_cost a + unary_cost op (operand_width a)
+  cost_of (Binary' op p a q b) = operand_cost a + operand_cost b + binary_cost op (operand_width a) (operand_width b)
+  cost_of (Choose' p test q a r b) = operand_cost test + operand_cost a + operand_cost b + (3 * operand_width a + operand_width test)
+  cost_of (Logical' and chain shape all) = tested_of all
 
-  pub costs_of : {m : _} → Row_of-Expr m → ℕ
-  costs_of end_of-Expr = 0
-  costs_of (more_of-Expr e rest) = cost_of e + costs_of rest
+  pub operand_cost : {m : _} → Row_of-Expr m → ℕ
+  operand_cost end_of-Expr = 0
+  operand_cost (more_of-Expr e rest) = cost_of e
 
-  -- each operand of a row is tested
-  pub tests_of : {m : _} → Row_of-Expr m → ℕ
-  tests_of end_of-Expr = 0
-  tests_of (more_of-Expr e rest) = (width_of e + 1) + tests_of rest
+  -- each operand of the row is made and tested
+  pub tested_of : {m : _} → Row_of-Expr m → ℕ
+  tested_of end_of-Expr = 0
+  tested_of (more_of-Expr e rest) = cost_of e + (width_of e + 1) + tested_of rest

@@ -1,12 +1,12 @@
 -- Expressions whose words are of 1 to 128 bits, and whose operands have the widths that their operators want.
-use Rattle.std.specs.Prelude.{ℕ, ◌≡◌, ◌+◌, ◌*◌, ◌<◌, ◌≤◌, length, All, List, []}
+use Rattle.std.specs.Prelude.{ℕ, ◌≡◌, ◌+◌, ◌*◌, ◌<◌, ◌≤◌, length, All, List}
 use Rattle.bit_exprs.specs.declared.forms.Expr.{Expr, Row_of-Expr, end_of-Expr, more_of-Expr}
 use Rattle.bit_exprs.specs.declared.forms.Expr.TheVariants.{Const, Read, Select', Unary', Binary', Choose', Logical'}
 use Rattle.bit_exprs.specs.declared.forms.UnaryOp.{UnaryOp}
 use Rattle.bit_exprs.specs.declared.forms.UnaryOp.TheVariants as one
 use Rattle.bit_exprs.specs.declared.forms.BinaryOp.{BinaryOp}
 use Rattle.bit_exprs.specs.declared.forms.BinaryOp.TheVariants.{Add, Sub, Mul, And, Or, Xor, Xnor, Equal, NotEqual, Less, LessEqual, Greater, GreaterEqual, Shl, Shr, Join}
-use Rattle.bit_exprs.specs.Values.{first, widths_of}
+use Rattle.bit_exprs.specs.Values.{width_of, operand_width}
 
 -- from 1 to 128
 abbrev pub IsWidth : ℕ → Type 0
@@ -51,11 +51,15 @@ abbrev mutual
   pub IsFormed : Expr → ℕ → Type 0
   IsFormed (Const word signed) n = IsWidth word.width
   IsFormed (Read bits) n = AreBits n bits
-  IsFormed (Select' vector window p index) n = AreBits n vector × IsWidth window.count × AreFormed index n
-  IsFormed (Unary' op p a) n = Takes op (first (widths_of a)) × AreFormed a n
-  IsFormed (Binary' op p a q b) n = TakesBoth op (first (widths_of a)) (first (widths_of b)) × AreFormed a n × AreFormed b n
-  IsFormed (Choose' p test q a r b) n = (first (widths_of b) ≡ first (widths_of a)) × AreFormed test n × AreFormed a n × AreFormed b n
+  IsFormed (Select' vector window p index) n = AreBits n vector × IsWidth window.count × OperandFormed index n
+  IsFormed (Unary' op p a) n = Takes op (operand_width a) × OperandFormed a n
+  IsFormed (Binary' op p a q b) n = TakesBoth op (operand_width a) (operand_width b) × OperandFormed a n × OperandFormed b n
+  IsFormed (Choose' p test q a r b) n = (operand_width b ≡ operand_width a) × OperandFormed test n × OperandFormed a n × OperandFormed b n
   IsFormed (Logical' and chain shape all) n = AreFormed all n
+
+  pub OperandFormed : {m : _} → Row_of-Expr m → ℕ → Type 0
+  OperandFormed end_of-Expr n = ⊥
+  OperandFormed (more_of-Expr e rest) n = IsFormed e n
 
   pub AreFormed : {m : _} → Row_of-Expr m → ℕ → Type 0
   AreFormed end_of-Expr n = Unit {0}

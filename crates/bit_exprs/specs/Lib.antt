@@ -1,5 +1,6 @@
 pub mod Operators
 pub mod Values
+pub mod Indices
 pub mod Formed
 pub mod Cost
 pub mod Updates

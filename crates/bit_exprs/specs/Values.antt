@@ -11,11 +11,6 @@ use Rattle.bit_exprs.specs.Operators.{unary_width, unary_sign, unary_value, bina
 abbrev pub bit_at : List Bool → ℕ → Bool
 bit_at v b = get_or v b false
 
--- the first of some numbers
-abbrev pub first : List ℕ → ℕ
-first [] = 0
-first (x ∷ xs) = x
-
 -- ---- width and sign
 
 abbrev mutual
@@ -24,29 +19,28 @@ abbrev mutual
   width_of (Const word signed) = word.width
   width_of (Read bits) = length bits
   width_of (Select' vector window p index) = window.count
-  width_of (Unary' op p a) = unary_width op (first (widths_of a))
-  width_of (Binary' op p a q b) = binary_width op (first (widths_of a)) (first (widths_of b))
-  width_of (Choose' p test q a r b) = first (widths_of a)
+  width_of (Unary' op p a) = unary_width op (operand_width a)
+  width_of (Binary' op p a q b) = binary_width op (operand_width a) (operand_width b)
+  width_of (Choose' p test q a r b) = operand_width a
   width_of (Logical' and chain shape all) = 1
 
-  pub widths_of : {m : _} → Row_of-Expr m → List ℕ
-  widths_of end_of-Expr = []
-  widths_of (more_of-Expr e rest) = width_of e ∷ widths_of rest
+  pub operand_width : {m : _} → Row_of-Expr m → ℕ
+  operand_width end_of-Expr = 0
+  operand_width (more_of-Expr e rest) = width_of e
 
 abbrev mutual
   pub sign_of : Expr → Bool
   sign_of (Const word signed) = signed
   sign_of (Read bits) = false
   sign_of (Select' vector window p index) = false
-  sign_of (Unary' op p a) = unary_sign op (all_signed a)
-  sign_of (Binary' op p a q b) = binary_sign op (all_signed a) (all_signed b)
-  sign_of (Choose' p test q a r b) = all_signed a && all_signed b
+  sign_of (Unary' op p a) = unary_sign op (operand_sign a)
+  sign_of (Binary' op p a q b) = binary_sign op (operand_sign a) (operand_sign b)
+  sign_of (Choose' p test q a r b) = operand_sign a && operand_sign b
   sign_of (Logical' and chain shape all) = false
 
-  -- each operand of the row is signed
-  pub all_signed : {m : _} → Row_of-Expr m → Bool
-  all_signed end_of-Expr = true
-  all_signed (more_of-Expr e rest) = sign_of e && all_signed rest
+  pub operand_sign : {m : _} → Row_of-Expr m → Bool
+  operand_sign end_of-Expr = false
+  operand_sign (more_of-Expr e rest) = sign_of e
 
 -- ---- selects
 
@@ -89,12 +83,15 @@ abbrev mutual
   pub value_of : Expr → List Bool → ℕ
   value_of (Const word signed) v = word.bits
   value_of (Read bits) v = number_of (map (bit_at v) bits)
-  value_of (Select' vector window p index) v = selected window (map (bit_at v) vector) (first (widths_of index)) (all_signed index) (first (values_of index v))
-  value_of (Unary' op p a) v = unary_value op (first (widths_of a)) (first (values_of a v))
-  value_of (Binary' op p a q b) v =
-      binary_value op (all_signed a && all_signed b) (first (widths_of a)) (first (widths_of b)) (first (values_of a v)) (first (values_of b v))
-  value_of (Choose' p test q a r b) v = if first (values_of test v) == 0 then first (values_of b v) else first (values_of a v)
+  value_of (Select' vector window p index) v = selected window (map (bit_at v) vector) (operand_width index) (operand_sign index) (operand_value index v)
+  value_of (Unary' op p a) v = unary_value op (operand_width a) (operand_value a v)
+  value_of (Binary' op p a q b) v = binary_value op (operand_sign a && operand_sign b) (operand_width a) (operand_width b) (operand_value a v) (operand_value b v)
+  value_of (Choose' p test q a r b) v = cond (operand_value test v == 0) (operand_value b v) (operand_value a v)
   value_of (Logical' and chain shape all) v = bit (row_holds and (values_of all v))
+
+  pub operand_value : {m : _} → Row_of-Expr m → List Bool → ℕ
+  operand_value end_of-Expr v = 0
+  operand_value (more_of-Expr e rest) v = value_of e v
 
   pub values_of : {m : _} → Row_of-Expr m → List Bool → List ℕ
   values_of end_of-Expr v = []

@@ -1,4 +1,6 @@
-//! Expressions over the bits of a design: what they are, what they are worth, and what they cost.
+//! Expressions over the bits of a design: what they are, and the definitions of what they are worth and cost.
 #![tactic(auto)]
 
 pub mod forms;
+pub mod indices;
+pub mod signs;
