@@ -15,11 +15,7 @@ use std::alloc::{AllocError, Global};
 
 /// Has a solver that keeps its lines refute the clauses. There is no proof only where the effort is used. The solver
 /// sees dense variables: its places are those of the clauses' variables, however many others there are.
-pub fn refute(
-    alloc: Global,
-    clauses: &Clauses,
-    units: &mut Units,
-) -> Result<Option<Proof>, Memory>
+pub fn refute(alloc: Global, clauses: &Clauses, units: &mut Units) -> Result<Option<Proof>, Memory>
     requires { HaveNoSolution clauses.now }
     ensures proof { IfOk result (λ p. MatchOption p (units.new.used ≡ units.new.effort) (IsProofUpTo clauses.now)) }
     ensures uses { Uses units.old units.new }

@@ -9,13 +9,12 @@ fill-requires-clause-vars c = numbers_fit c.args.clauses.now c.in_ok-numbered.nu
 
 pub proof-requires-clause-refutes : goal.proof-requires-clause-refutes
 proof-requires-clause-refutes c =
-    let shown = rw c.in-Refuted.is at c.in-Ok.ensures.shows in
-    (
+    let shown = rw c.in-Refuted.is at c.in-Ok.ensures.shows in (
       c.vars.result,
       c.vars.ensures,
       kept_refute (vars_of c.fill.new.solver) c.vars.result c.in_ok-numbered.numbered.clauses (added_to c.fill.new.solver) c.make.result (sink_of c.fill.new.solver) (sink_of c.run.new.solver)
-      c.close-sink.result c.lines.result.now (c.in_ok-fill.ensures.vars ∙ c.in_ok-solver.ensures.vars) c.in_ok-fill.ensures.added (c.in_ok-fill.ensures.sink ∙ c.in_ok-solver.ensures.sink)
-      c.close-sink.ensures c.make.ensures c.lines.ensures shown
+          c.close-sink.result c.lines.result.now (c.in_ok-fill.ensures.vars ∙ c.in_ok-solver.ensures.vars) c.in_ok-fill.ensures.added (c.in_ok-fill.ensures.sink ∙ c.in_ok-solver.ensures.sink)
+          c.close-sink.ensures c.make.ensures c.lines.ensures shown,
     )
 
 pub unreachable-requires : goal.unreachable-requires
