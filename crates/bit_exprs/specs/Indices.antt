@@ -17,8 +17,8 @@ down_of window k p =
 abbrev pub code_of : ℕ → Bool → ℕ → ℕ → Option ℕ
 code_of w signed up down =
     cond (nat_lt up down)
-      (cond signed (cond (nat_lt (2 ^ (w - 1)) (down - up)) None (Some (word_neg w (down - up)))) None)
-      (cond (nat_lt (up - down) (2 ^ cond signed (w - 1) w)) (Some (up - down)) None)
+    (cond signed (cond (nat_lt (2 ^ (w - 1)) (down - up)) None (Some (word_neg w (down - up)))) None)
+    (cond (nat_lt (up - down) (2 ^ cond signed (w - 1) w)) (Some (up - down)) None)
 
 abbrev pub is_code : Option ℕ → ℕ → Bool
 is_code None a = false

@@ -49,8 +49,8 @@ abbrev mutual
 abbrev pub index_of : Window → ℕ → ℕ → ℤ
 index_of window k p =
     cond window.rising
-      (cond window.down (pos (window.right + k) -ℤ pos p) (pos (window.right + k) -ℤ pos (p + (window.count - 1))))
-      (cond window.down (pos (window.right + p + (window.count - 1)) -ℤ pos k) (pos (window.right + p) -ℤ pos k))
+    (cond window.down (pos (window.right + k) -ℤ pos p) (pos (window.right + k) -ℤ pos (p + (window.count - 1))))
+    (cond window.down (pos (window.right + p + (window.count - 1)) -ℤ pos k) (pos (window.right + p) -ℤ pos k))
 
 -- the word a of w bits, as an index, is z
 abbrev pub is_index : ℕ → Bool → ℕ → ℤ → Bool

@@ -14,7 +14,10 @@ pub type Bit = u32;
 #[cycle(expr)]
 pub enum Expr {
     /// A number; it is signed where it is written as a plain decimal.
-    Const { word: Word, signed: bool },
+    Const {
+        word: Word,
+        signed: bool,
+    },
     /// Some bits, the least significant first: a name, or a select with constant indices.
     Read(Items<Bit>),
     /// A select of a vector, whose bits are given with the least significant one first.

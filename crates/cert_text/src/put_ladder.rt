@@ -6,9 +6,9 @@ ghost use Rattle.bit_system.specs.ProofLines.{seen};
 ghost use Rattle.line_text.specs.Lines.{line_text, text_of};
 ghost use Rattle.cert_text.specs.Spelling.{added, lit_word, level_word, lemma_line, proof_line, all_added, proof_lines, step_lines, hit_lines, ladder_lines};
 
+use crate::cert::{NamedLadder, NamedLemma, NamedLit};
 use crate::put::put_number;
 use bit_system::{Depth, Proof};
-use crate::cert::{NamedLadder, NamedLemma, NamedLit};
 use cnf_core::Line;
 use proof_lines::write_lrat;
 use std::alloc::{AllocError, Global};

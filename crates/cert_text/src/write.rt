@@ -7,9 +7,9 @@ ghost use Rattle.cert_text.specs.declared.cert.Body.TheVariants.{Reached, Exclud
 ghost use Rattle.cert_text.specs.Spelling.{setup_lines, body_lines, claim_lines, spelling};
 ghost use Rattle.cert_text.specs.Written.{FitsButLines, lined, Reads, ReadIsWritten, WrittenIsRead};
 
+use crate::cert::{Body, Cert, CertClaim, NamedLadder};
 use crate::put::{put_bits, put_inputs, put_number, put_numbered, put_tagged};
 use crate::put_ladder::put_ladder;
-use crate::cert::{Body, Cert, CertClaim, NamedLadder};
 use design_core::setup::{Setup, Stimulus};
 use std::alloc::{AllocError, Global};
 

@@ -45,9 +45,9 @@ pub literal_more : (old new : List ℕ) (clause numbers : List Literal) (l numbe
 literal_more old new clause numbers l number F c g n = record {
   below = All-push (λ (l : Literal). l.variable < length new) numbers number (below_longer old g.more new numbers g.longer c.below) n.below;
   same =
-    map-append (named new) numbers (number ∷ [])
-    ∙ (λ j. map (named (g.longer j)) numbers ++ n.same j ∷ [])
-    ∙ ap (λ (xs : List Literal). xs ++ l ∷ []) (clause_longer old g.more numbers c.below ∙ c.same);
+      map-append (named new) numbers (number ∷ [])
+      ∙ (λ j. map (named (g.longer j)) numbers ++ n.same j ∷ [])
+      ∙ ap (λ (xs : List Literal). xs ++ l ∷ []) (clause_longer old g.more numbers c.below ∙ c.same);
 }
 
 -- one more clause is numbered
@@ -55,11 +55,11 @@ pub clause_more : (old new : List ℕ) (clauses numbered : List (List Literal)) 
     ClauseIsNumbered new c numbers → AreNumbered new (clauses ++ c ∷ []) (numbered ++ numbers ∷ [])
 clause_more old new clauses numbered c numbers F a g n = record {
   below = All-push (λ (c : List Literal). Each (λ l. l.variable < length new) c) numbered numbers
-    (λ k d low. below_longer old g.more new (get_or numbered k d) g.longer (a.below k d low)) n.below;
+      (λ k d low. below_longer old g.more new (get_or numbered k d) g.longer (a.below k d low)) n.below;
   same =
-    map-append (map (named new)) numbered (numbers ∷ [])
-    ∙ (λ j. map (map (named (g.longer j))) numbered ++ n.same j ∷ [])
-    ∙ ap (λ (xs : List (List Literal)). xs ++ c ∷ []) (all_longer old g.more numbered a.below ∙ a.same);
+      map-append (map (named new)) numbered (numbers ∷ [])
+      ∙ (λ j. map (map (named (g.longer j))) numbered ++ n.same j ∷ [])
+      ∙ ap (λ (xs : List (List Literal)). xs ++ c ∷ []) (all_longer old g.more numbered a.below ∙ a.same);
 }
 
 -- ---- the steps of loops
@@ -71,11 +71,10 @@ pub literal_step : (first old new : List ℕ) (clause numbers all : List Literal
     ClauseIsNumbered new (take (i + 1) clause) all × Grows first new (λ vars. Each (λ l. l.variable ≤ vars) clause) × IsNaming new
 literal_step first old new clause numbers all i l number low here pushed c g naming n h =
     let one : take (i + 1) clause ≡ take i clause ++ l ∷ [] = take_more clause i l low ∙ ap (λ (x : Literal). take i clause ++ x ∷ []) (sym here) in
-    let its : (vars : ℕ) → Each (λ l. l.variable ≤ vars) clause → l.variable ≤ vars = λ vars each. let less = each i l low in rw here less in
-    (
+    let its : (vars : ℕ) → Each (λ l. l.variable ≤ vars) clause → l.variable ≤ vars = λ vars each. let less = each i l low in rw here less in (
       rw (one, pushed) (literal_more old new (take i clause) numbers l number (λ vars. l.variable ≤ vars) c h n),
       grows_twice first old new (λ vars. Each (λ l. l.variable ≤ vars) clause) (λ vars. l.variable ≤ vars) (λ vars. Each (λ l. l.variable ≤ vars) clause) (λ vars each. each) its g h,
-      h.naming naming
+      h.naming naming,
     )
 
 pub clause_step : (first old new : List ℕ) (clauses numbered all : List (List Literal)) (i : ℕ) (c numbers slice : List Literal) {count : ℕ} →
@@ -86,9 +85,8 @@ pub clause_step : (first old new : List ℕ) (clauses numbered all : List (List 
 clause_step first old new clauses numbered all i c numbers slice below count_is here same pushed a g naming n h =
     let low : i < length clauses = omega arith in
     let one : take (i + 1) clauses ≡ take i clauses ++ c ∷ [] = take_more clauses i [] low ∙ ap (λ (x : List Literal). take i clauses ++ x ∷ []) (sym here) in
-    let its : (vars : ℕ) → HaveVarsUpTo vars clauses → Each (λ l. l.variable ≤ vars) c = λ vars each. rw here (each i [] low) in
-    (
+    let its : (vars : ℕ) → HaveVarsUpTo vars clauses → Each (λ l. l.variable ≤ vars) c = λ vars each. rw here (each i [] low) in (
       rw (one, pushed, same) (clause_more old new (take i clauses) numbered c numbers (λ vars. Each (λ l. l.variable ≤ vars) c) a h n),
       grows_twice first old new (λ vars. HaveVarsUpTo vars clauses) (λ vars. Each (λ l. l.variable ≤ vars) c) (λ vars. HaveVarsUpTo vars clauses) (λ vars each. each) its g h,
-      h.naming naming
+      h.naming naming,
     )

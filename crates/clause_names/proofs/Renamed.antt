@@ -111,7 +111,7 @@ module _ (f : ℕ → ℕ) (one : (a b : ℕ) → f a ≡ f b → a ≡ b) where
     good_vars : (lits : List Literal) → HasGoodVars most lits → HasGoodVars vars (other_clause lits)
     good_vars lits h = (
       All-map (λ (l : Literal). l.variable ≤ vars) other lits (λ k d low. bound (get_or lits k d).variable (h.0 k d low)),
-      pairs lits h.1
+      pairs lits h.1,
     )
       where
         at : (ls : List Literal) (k : ℕ) (d e : Literal) → k < length ls → get_or (map other ls) k e ≡ other (get_or ls k d)
@@ -136,7 +136,7 @@ module _ (f : ℕ → ℕ) (one : (a b : ℕ) → f a ≡ f b → a ≡ b) where
             good_vars = good_vars lits.items p.0.good_vars;
             closes = same_read s.live hints.items lits.items ∙ p.0.closes;
           },
-          ap other_state p.1 ∙ sym (same_added s id lits.items)
+          ap other_state p.1 ∙ sym (same_added s id lits.items),
         )
     passes s t (Add id lits hints) (Delete n ids) e p = absurd cc
     passes s t (Delete id ids) (Add n ls hs) e p = absurd cc

@@ -36,7 +36,9 @@ fn main(rt: HostRuntime) -> anyhow::Result<()> {
     };
     let missing = desk.load("three", 10).is_err();
     let nowhere = desk.store("none/four", b"short".as_slice()).is_err();
-    println!(rt; "stored {stored} {again} whole {whole} front {front} other {other} missing {missing} nowhere {nowhere}")?;
+    println!(rt;
+        "stored {stored} {again} whole {whole} front {front} other {other} missing {missing} nowhere {nowhere}"
+    )?;
     let mut sink = WriterSink::new(rt.stdout());
     let first = sink.put(b"first ".as_slice()).is_ok();
     let second = sink.put(b"second\n".as_slice()).is_ok();

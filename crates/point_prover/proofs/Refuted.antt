@@ -4,7 +4,8 @@ use Rattle.std.specs.Prelude.{All as Each, MatchOption}
 use Rattle.std.specs.Option.{unwrap_or}
 use Rattle.std.proofs.lemmas.Bool.{cases_lt}
 use Rattle.std.proofs.lemmas.List.{get_or_append_left, get_or_at, length_push}
-use Rattle.cnf_core.specs.Literal.{Literal, HaveNoSolution}
+use Rattle.cnf_core.specs.Literal.{Literal, HaveNoSolution, HaveVarsUpTo}
+use Rattle.cnf_core.specs.Lrat.{Refutes}
 use Rattle.cnf_core.specs.declared.Line.{Line}
 use Rattle.proof_lines.specs.Sinks.{SinkState, Tells}
 use Rattle.proof_lines.specs.Kept.{kept_state}
@@ -25,7 +26,9 @@ use Rattle.ic3_frames.specs.Solving.{IsSolved}
 use Rattle.ic3_frames.specs.declared.solve.Solved.TheVariants.{Values}
 use Rattle.ic3_frames.proofs.Levels.{steps_same}
 use Rattle.ic3_frames.proofs.Meaning.{unsolved_step, unsolved_hit}
-use Rattle.point_prover.specs.Good.{IsGood, AreProved}
+use Rattle.clause_names.specs.Numbering.{IsNumbering}
+use Rattle.clause_names.specs.declared.numbering.Numbered.{Numbered}
+use Rattle.point_prover.specs.Good.{IsGood, AreProved, IsProofUpTo}
 use Rattle.point_prover.proofs.Ladders.{has_states}
 
 -- clauses without a solution aren't solved by values
@@ -36,19 +39,19 @@ lines-of : SinkState → List Line
 lines-of s = unwrap_or s.told []
 
 -- the lines that a new sink keeps refute the clauses
-pub kept_refute : (vars given : ℕ) (clauses added : List (List Literal)) (before was is after : KeepSink) (lines : List Line) (proof : List ProofLine) →
+pub kept_refute : (given vars : ℕ) (clauses added : List (List Literal)) (before was is after : KeepSink) (lines : List Line) →
     given ≡ vars → added ≡ clauses → was ≡ before → after ≡ is →
     kept_state before ≡ record { faults = 0; told = Some [] } → kept_state after ≡ record { faults = 0; told = Some lines } →
-    Tells (kept_state was).told (kept_state is).told (CoreLines given added []) → proof ≡ map seen lines → IsRefutedBy vars clauses proof
+    Tells (kept_state was).told (kept_state is).told (CoreLines given added []) → Refutes vars clauses lines
 unfolding lines-of
-kept_refute vars given clauses added before was is after lines proof range same began ended empty kept h said =
+kept_refute given vars clauses added before was is after lines range same began ended empty kept h =
     let none : was.lines.items ≡ [] = ap (λ (s : KeepSink). s.lines.items) began ∙ ap lines-of empty in
     let all : is.lines.items ≡ lines = sym (ap (λ (s : KeepSink). s.lines.items) ended) ∙ ap lines-of kept in
-    record {
-      lines = lines;
-      said = sym said;
-      refutes = Refutes-core vars clauses lines (rw (range, same, none, all) at h);
-    }
+    Refutes-core vars clauses lines (rw (range, same, none, all) at h)
+
+-- dense variables are those of the solver
+pub numbers_fit : (clauses : List (List Literal)) (n : Numbered) (most given : ℕ) → IsNumbering clauses n → given ≡ most → most + 1 ≡ length n.names.keys → HaveVarsUpTo given n.clauses
+numbers_fit clauses n most given h same all = λ i c low k l less. let below = h.numbered.below i c low k l less in omega arith
 
 -- one more lemma's proof
 pub proved_more : (m : Machine) (lemmas : List Lemma) (count : ℕ) (proofs : List (List ProofLine)) (proof : List ProofLine) → AreProved m lemmas count proofs →
@@ -88,9 +91,3 @@ pub none_hit : (m : Machine) (point : ℕ) (depth : Depth) (lemmas : List Lemma)
     clauses ≡ hit_clauses m depth lemmas point → HaveNoSolution clauses
 none_hit m point depth lemmas clauses g exact =
     rw exact (unsolved_hit m point depth lemmas g.valid (has_states m point depth lemmas g) g.point_exists g.steps g.misses)
-
-pub step_refuted : (m : Machine) (lemmas : List Lemma) (at vars : ℕ) (clauses : List (List Literal)) (S : Type 0) (p : Option (List ProofLine)) → vars ≡ node_count m.graph →
-    ((l : Lemma) → clauses ≡ step_clauses m lemmas (get_or lemmas at l)) → MatchOption p S (IsRefutedBy vars clauses) →
-    MatchOption p S (λ (q : List ProofLine). (l : Lemma) → IsRefutedBy (node_count m.graph) (step_clauses m lemmas (get_or lemmas at l)) q)
-step_refuted m lemmas at vars clauses S None e exact h = h
-step_refuted m lemmas at vars clauses S (Some p) e exact h = λ l. rw (e, exact l) at h

@@ -1,6 +1,7 @@
 -- Lemmas that make a ladder, and their proofs.
 use Rattle.std.specs.Prelude.{◌≡◌, ◌≢◌, ℕ, ◌<◌, Bool, true, List, length, slice_index_or, All as Each}
 use Rattle.aig_core.specs.Graph.{node_count}
+use Rattle.cnf_core.specs.Literal.{Literal, HaveVarsUpTo}
 use Rattle.bit_system.specs.declared.ladder.Depth.{Depth}
 use Rattle.bit_system.specs.declared.ladder.Depth.TheVariants.{Steps}
 use Rattle.bit_system.specs.declared.ladder.Lemma.{Lemma}
@@ -25,3 +26,7 @@ pub record AreProved (m : Machine) (lemmas : List Lemma) (count : ℕ) (proofs :
   pub long : length proofs ≡ count
   pub each : (i : ℕ) (l : Lemma) (proof : List ProofLine) → i < count →
       IsRefutedBy (node_count m.graph) (step_clauses m lemmas (slice_index_or lemmas i l)) (slice_index_or proofs i proof)
+
+-- the proof refutes the clauses over as many variables as they have, or more
+abbrev pub IsProofUpTo : List (List Literal) → List ProofLine → Type 0
+IsProofUpTo clauses proof = (vars : ℕ) → HaveVarsUpTo vars clauses → IsRefutedBy vars clauses proof

@@ -96,7 +96,7 @@ fn step_proof(
     ensures uses { Uses units.old units.new }
 {
     let clauses = step_query(alloc, system, lemmas, at as u64)?;
-    let proof = refute(alloc, &clauses, system.node_count(), units)?;
+    let proof = refute(alloc, &clauses, units)?;
     Ok(proof)
 }
 
@@ -138,7 +138,7 @@ fn hit_proof(
     ensures uses { Uses units.old units.new }
 {
     let clauses = hit_query(alloc, system, depth, lemmas, point)?;
-    let proof = refute(alloc, &clauses, system.node_count(), units)?;
+    let proof = refute(alloc, &clauses, units)?;
     Ok(proof)
 }
 

@@ -86,7 +86,8 @@ fn reached(
 /// does and there is no prelude, that is proved at once. A ladder is made anew from time to time, and at the end.
 ///
 /// The search sees only what the point needs of the system. Each of its queries is a solver of its own, which takes time
-/// and memory in the nodes that are needed; the proofs of a ladder take it in the nodes of the whole circuit.
+/// and memory in the nodes that are needed. The proofs of a ladder are solvers over the literals of their queries, which
+/// at the first step have one for each state bit of the whole system with a starting value.
 pub fn prove(alloc: Global, system: &System, point: u32, effort: u64) -> Result<Proved, Memory>
     requires point { point < length system.now.hits }
     requires effort { 0 < effort }

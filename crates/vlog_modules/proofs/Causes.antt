@@ -1,5 +1,5 @@
 -- The errors of the parts are those of the text.
-use Rattle.std.proofs.Common.{◌≡◌, ◌≤◌, ℕ, List, length, Ok, Err, sym, subst}
+use Rattle.std.proofs.Common.{◌≤◌, ℕ, List, length, Ok, Err, sym, subst}
 use Rattle.vlog_rules.specs.Grammar.{IsSource}
 use Rattle.vlog_tokens.specs.Places.{start, past}
 use Rattle.vlog_tokens.specs.Tokens.{Token}
@@ -10,7 +10,6 @@ use Rattle.vlog_expr.specs.declared.error.ParseError.{ParseError}
 use Rattle.vlog_expr.specs.declared.error.ParseError.TheVariants as parse_error
 use Rattle.vlog_expr.specs.Answers.{Answers}
 use Rattle.vlog_modules.specs.declared.error.TextError.{TextError}
-use Rattle.vlog_modules.specs.declared.error.TextError.TheVariants as text_error
 use Rattle.vlog_modules.specs.Answers.{TextAnswers, IsLexical, IsGrammatical}
 
 pub lexical_answers : (text : List ℕ) (cause : LexError) (error : TextError) → length text ≤ 4194304 → LexAnswers text (Err cause) → IsLexical cause error → TextAnswers text (Err error)

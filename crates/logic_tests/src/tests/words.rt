@@ -3,15 +3,15 @@
 ghost use Rattle.std.specs.Prelude.{◌≡◌, ◌≤◌, ◌↔◌, IsTrue, length, All};
 ghost use Rattle.aig_core.specs.Graph.{IsLiteral};
 
+use aig_core::{Aig, Memory, value_at};
+use std::alloc::Global;
+use std::process::Abort;
+use std::test::Fail;
 use word_blast::{
     blast_add, blast_all, blast_and, blast_any, blast_equal, blast_less, blast_mul, blast_mux,
     blast_neg, blast_not, blast_odd, blast_or, blast_shl, blast_shr, blast_sshr, blast_sub,
     blast_xnor, blast_xor,
 };
-use aig_core::{Aig, Memory, value_at};
-use std::alloc::Global;
-use std::process::Abort;
-use std::test::Fail;
 use word_core::Word;
 
 // The literals of the inputs.
