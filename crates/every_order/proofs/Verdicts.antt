@@ -1,6 +1,6 @@
 -- From the settled runs to those in every order.
 use Rattle.std.proofs.Common.{◌≡◌, [], Contains, get_or}
-use Rattle.vlog_tree.specs.declared.Tree.{Tree}
+use Rattle.vlog_syntax.specs.declared.module.Tree.{Tree}
 use Rattle.design_core.specs.declared.flat.Design.{Design}
 use Rattle.design_core.specs.declared.setup.Setup.{Setup}
 use Rattle.design_core.specs.Legality.{IsLegal}

@@ -6,7 +6,7 @@ use Rattle.std.proofs.lemmas.Bool.Decides.{nat_tests}
 use Rattle.std.proofs.lemmas.List.{length-map, length-append}
 use Rattle.std.proofs.lemmas.List.Elements.{All-nil, All-cons, All-append, All-weaker, Contains-get_or, Contains-append_left, Contains-append_right}
 use Rattle.std.proofs.lemmas.Option.{none-some, same_Some, slice_get_within, slice_get-get_or, get_or_from_slice_get}
-use Rattle.vlog_tree.specs.declared.Tree.{Tree}
+use Rattle.vlog_syntax.specs.declared.module.Tree.{Tree}
 use Rattle.vlog_tree.specs.declared.Module.{Module}
 use Rattle.vlog_tree.specs.declared.Port.{Port}
 use Rattle.vlog_tree.specs.declared.Direction.TheVariants.{Input}

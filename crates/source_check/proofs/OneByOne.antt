@@ -8,7 +8,7 @@ use Rattle.cert_text.specs.declared.claim.Claim.{Claim}
 use Rattle.source_check.specs.declared.error.CheckError.{CheckError}
 use Rattle.source_check.specs.declared.error.CheckError.TheVariants.{Source, Cert as Unread, WrongPoint, Missing, NotHit, Ladder, Memory}
 use Rattle.source_check.specs.declared.points.Point.{Point}
-use Rattle.vlog_tree.specs.declared.Tree.{Tree}
+use Rattle.vlog_syntax.specs.declared.module.Tree.{Tree}
 use Rattle.cert_text.specs.declared.cert.Cert.{Cert}
 use Rattle.source_check.specs.Legal.{IsElaborated}
 use Rattle.source_check.specs.Points.{points_of}

@@ -9,7 +9,7 @@ use Rattle.design_core.specs.declared.flat.Design.{Design}
 use Rattle.design_core.specs.declared.flat.BitInfo.{BitInfo}
 use Rattle.design_core.specs.declared.setup.Setup.{Setup}
 use Rattle.design_core.specs.Legality.{Distinct}
-use Rattle.vlog_tree.specs.declared.Tree.{Tree}
+use Rattle.vlog_syntax.specs.declared.module.Tree.{Tree}
 use Rattle.vlog_tree.specs.declared.Module.{Module}
 use Rattle.vlog_tree.specs.declared.Port.{Port}
 use Rattle.aig_core.specs.Graph.{Graph}

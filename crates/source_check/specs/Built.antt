@@ -1,6 +1,6 @@
 -- Which texts have a design so far: one clock, scalar ports, registers that clocked processes assign.
 use Rattle.std.specs.Prelude.{ℕ, ◌≡◌, ◌≢◌, ◌≤◌, ◌⊎◌, List, [], ◌∷◌, length, map, slice_get, Option, Some, None, All, Contains, codes}
-use Rattle.vlog_tree.specs.declared.Tree.{Tree}
+use Rattle.vlog_syntax.specs.declared.module.Tree.{Tree}
 use Rattle.vlog_tree.specs.declared.Module.{Module}
 use Rattle.vlog_tree.specs.declared.Port.{Port}
 use Rattle.vlog_tree.specs.declared.Direction.TheVariants.{Input, Output}
@@ -13,6 +13,7 @@ use Rattle.vlog_tree.specs.declared.Item.TheVariants.{Always}
 use Rattle.vlog_tree.specs.declared.Event.{Event}
 use Rattle.vlog_tree.specs.declared.Edge.TheVariants.{Posedge}
 use Rattle.design_core.specs.declared.setup.Setup.{Setup}
+use Rattle.vlog_built.specs.Narrow.{narrow}
 use Rattle.source_check.specs.Statements.{Leaf, read, numeral, leaves_of, Part, assignment, condition, parts_of, names_in_target, assigned_by, assignments_in, body_of, all_parts}
 
 -- the names of the ports, in order
@@ -88,6 +89,10 @@ pub record IsBuiltModule (m : Module) (setup : Setup) : Type 0 where
   pub few_bits : length m.ports ≤ 65536
   pub few_statements : assignments_in (all_parts m.items) ≤ 65536
 
+-- the text is this one module of the small language, which has one-bit values and no selects
+abbrev pub IsModule : Tree → Module → Type 0
+IsModule tree m = narrow tree ≡ Some (record { modules = m ∷ [] })
+
 -- the text has a design under this setup: it is one module that has one
 abbrev pub IsBuilt : Tree → Setup → Type 0
-IsBuilt tree setup = (m : Module) × (tree.modules ≡ m ∷ []) × IsBuiltModule m setup
+IsBuilt tree setup = (m : Module) × IsModule tree m × IsBuiltModule m setup

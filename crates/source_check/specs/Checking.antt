@@ -1,10 +1,9 @@
 -- Which texts and certificates are accepted, and else why not: the text first, then the certificate, then its claims.
 use Rattle.std.specs.Prelude.{ℕ, ◌≡◌, List, Result, Ok, Err}
-use Rattle.vlog_tree.specs.declared.Tree.{Tree}
-use Rattle.vlog_items.specs.declared.error.ParseError.TheVariants as parse_error
-use Rattle.vlog_items.specs.declared.error.TextError.{TextError}
-use Rattle.vlog_items.specs.declared.error.TextError.TheVariants as text_error
-use Rattle.vlog_items.specs.Answers.{TextAnswers}
+use Rattle.vlog_syntax.specs.declared.module.Tree.{Tree}
+use Rattle.vlog_modules.specs.declared.error.TextError.{TextError}
+use Rattle.vlog_modules.specs.declared.error.TextError.TheVariants as text_error
+use Rattle.vlog_modules.specs.Answers.{TextAnswers}
 use Rattle.design_core.specs.declared.setup.Setup.{Setup}
 use Rattle.cert_text.specs.declared.cert.Cert.{Cert}
 use Rattle.cert_text.specs.declared.claim.Claim.{Claim}
@@ -25,9 +24,8 @@ use Rattle.source_check.specs.Judging.{Judges, AreTrue}
 -- the text is refused for this reason, which isn't want of memory
 abbrev pub TextRefused : List ℕ → TextError → Type 0
 TextRefused text (text_error.TooLong length) = TextAnswers text (Err (text_error.TooLong length))
-TextRefused text (text_error.Parse (parse_error.Expected at what)) = TextAnswers text (Err (text_error.Parse (parse_error.Expected at what)))
-TextRefused text (text_error.Parse (parse_error.TooDeep at)) = TextAnswers text (Err (text_error.Parse (parse_error.TooDeep at)))
-TextRefused text (text_error.Parse parse_error.Memory) = ⊥
+TextRefused text (text_error.Lex error) = TextAnswers text (Err (text_error.Lex error))
+TextRefused text (text_error.Parse error) = TextAnswers text (Err (text_error.Parse error))
 TextRefused text text_error.Memory = ⊥
 
 -- the certificate is refused for this reason, which isn't want of memory

@@ -1,8 +1,10 @@
 -- The design of a text.
-use Rattle.std.specs.Prelude.{ℕ, zero, suc, ◌≡◌, ◌<◌, ◌^◌, Result, Ok, Err, ◌+◌, ◌==◌, Bool, true, false, not, ◌&&◌, List, [], ◌∷◌, ◌++◌, length, map, Option, None, Some, if◌then◌else◌, codes}
+use Rattle.std.specs.Prelude.{MatchOption, ℕ, zero, suc, ◌≡◌, ◌<◌, ◌^◌, Result, Ok, Err, ◌+◌, ◌==◌, Bool, true, false, not, ◌&&◌, List, [], ◌∷◌, ◌++◌, length, map, Option, None, Some, if◌then◌else◌, codes}
 use Rattle.std.specs.List.{position_or_len}
 use Rattle.std.specs.Str.{bytes_eq}
-use Rattle.vlog_tree.specs.declared.Tree.{Tree}
+use Rattle.vlog_syntax.specs.declared.module.Tree.{Tree}
+use Rattle.vlog_syntax.specs.declared.module.Module as wide_module
+use Rattle.vlog_tree.specs.declared.Tree as small_tree
 use Rattle.vlog_tree.specs.declared.Module.{Module}
 use Rattle.vlog_tree.specs.declared.Port.{Port}
 use Rattle.vlog_tree.specs.declared.Direction.{Direction}
@@ -47,7 +49,7 @@ use Rattle.source_check.specs.declared.flatten.build.Numbers.{Numbers}
 use Rattle.word_core.specs.declared.place.Place.{Place}
 use Rattle.source_check.specs.declared.flatten.FlatError.{FlatError}
 use Rattle.source_check.specs.declared.flatten.FlatError.TheVariants.{NotBuilt, Memory}
-use Rattle.source_check.specs.Built.{port_names, IsBuilt, IsBuiltModule}
+use Rattle.source_check.specs.Built.{port_names, IsModule, IsBuilt, IsBuiltModule}
 
 -- ---- names and bits
 
@@ -210,15 +212,20 @@ design_of m setup =
 
 -- the design of a text under a setup, if it has one
 abbrev pub IsDesignOf : Tree → Setup → Design → Type 0
-IsDesignOf tree setup d = (m : Module) × (tree.modules ≡ m ∷ []) × IsBuiltModule m setup × (d ≡ design_of m setup)
+IsDesignOf tree setup d = (m : Module) × IsModule tree m × IsBuiltModule m setup × (d ≡ design_of m setup)
 
-abbrev pub place_of : List Module → Place
+abbrev pub place_of : List wide_module.Module → Place
 place_of [] = record { line = 1; col = 1 }
 place_of (m ∷ ms) = m.at
 
 -- where the text's first token stands
 abbrev pub first_place : Tree → Place
 first_place tree = place_of tree.modules
+
+-- the answer for a tree of the small language: the design of its one module, whose sites can be numbered, or none where it has none
+abbrev pub FlattensSmall : small_tree.Tree → Setup → Option Design → Type 0
+FlattensSmall tree setup o = MatchOption o ((m : Module) → tree.modules ≡ m ∷ [] → IsBuiltModule m setup → ⊥)
+    (λ d. (m : Module) × (tree.modules ≡ m ∷ []) × IsBuiltModule m setup × (d ≡ design_of m setup) × (length d.sites < 2 ^ 32))
 
 -- the answer of flattening: the text's design, whose sites can be numbered, or, where it has none, the place of its first token; nothing where
 -- memory ran out

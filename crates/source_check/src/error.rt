@@ -4,7 +4,7 @@ use crate::flatten::FlatError;
 use cert_text::CertError;
 use ladder_check::LadderFault;
 use std::alloc::AllocError;
-use vlog_items::TextError;
+use vlog_modules::TextError;
 use word_core::{Name, Place};
 
 /// Why a text has no design under a setup.

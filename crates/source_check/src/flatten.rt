@@ -8,7 +8,7 @@ pub mod scope;
 
 ghost use Rattle.std.specs.Prelude.{◌≡◌, ◌<◌, ◌^◌, length, MatchOption, IfOk};
 ghost use Rattle.source_check.specs.Built.{IsBuiltModule};
-ghost use Rattle.source_check.specs.Flat.{design_of, Flattens};
+ghost use Rattle.source_check.specs.Flat.{design_of, first_place, FlattensSmall, Flattens};
 
 use crate::flatten::build::design;
 use crate::flatten::check::{BIT_LIMIT, are_built_items, are_plain_ports, statement_count};
@@ -17,7 +17,9 @@ use crate::flatten::ports::Ports;
 use design_core::flat::Design;
 use design_core::setup::Setup;
 use std::alloc::{AllocError, Global};
-use vlog_tree::{Module, Tree};
+use vlog_built::narrow;
+use vlog_syntax::Tree;
+use vlog_tree::Module;
 use word_core::Place;
 
 /// Why a tree has no design under a setup.
@@ -75,21 +77,42 @@ fn flatten_module(
     Ok(Some(design(alloc, &ports, module, setup, statements)?))
 }
 
+/// The design of a tree of the small language, or none where it has none. Want of memory is answered also where it
+/// has 2^32 sites or more.
+fn flatten_small(
+    alloc: Global,
+    tree: &vlog_tree::Tree,
+    setup: &Setup,
+) -> Result<Option<Design>, AllocError>
+    ensures { IfOk result (λ o. FlattensSmall tree.now setup.now o) }
+{
+    let modules = tree.modules.as_slice();
+    if modules.len() != 1 {
+        return Ok(None);
+    }
+    flatten_module(alloc, &modules[0], setup)
+}
+
+/// Where a text's first token stands.
+fn first_token(tree: &Tree) -> Place
+    ensures { result ≡ first_place tree.now }
+{
+    match tree.modules.as_slice() {
+        [first, ..] => first.at,
+        [] => Place { line: 1, col: 1 },
+    }
+}
+
 /// The design of a text's tree under a setup. The time is linear in the tree, names being found by their hash.
 pub fn flatten(alloc: Global, tree: &Tree, setup: &Setup) -> Result<Design, FlatError>
     ensures { Flattens tree.now setup.now result }
 {
-    let modules = tree.modules.as_slice();
-    let Some(first) = modules.first() else {
-        return Err(FlatError::NotBuilt {
-            at: Place { line: 1, col: 1 },
-        });
+    let at = first_token(tree);
+    let Some(small) = narrow(alloc, tree)? else {
+        return Err(FlatError::NotBuilt { at });
     };
-    if modules.len() != 1 {
-        return Err(FlatError::NotBuilt { at: first.at });
-    }
-    match flatten_module(alloc, first, setup)? {
+    match flatten_small(alloc, &small, setup)? {
         Some(design) => Ok(design),
-        None => Err(FlatError::NotBuilt { at: first.at }),
+        None => Err(FlatError::NotBuilt { at }),
     }
 }

@@ -26,7 +26,7 @@ use lrat_check::Checker;
 use plain_blast::translate;
 use sqlite_items::Items;
 use std::alloc::{AllocError, Global};
-use vlog_tree::Tree;
+use vlog_syntax::Tree;
 use word_core::Name;
 
 /// What claims are judged by: a legal design, and its system with the names of the state bits.

@@ -9,7 +9,7 @@ use design_core::setup::Setup;
 use plain_blast::cost;
 use sqlite_items::Items;
 use std::alloc::Global;
-use vlog_tree::Tree;
+use vlog_syntax::Tree;
 
 /// The most that a design may cost.
 const COST_LIMIT: u64 = 4_194_304;

@@ -4,8 +4,8 @@ ghost use Rattle.source_check.specs.Checking.{ReadsText};
 
 use crate::error::SourceError;
 use std::alloc::Global;
-use vlog_items::{ParseError, TextError, parse};
-use vlog_tree::Tree;
+use vlog_modules::{TextError, parse};
+use vlog_syntax::Tree;
 
 /// The tree of a text.
 pub fn tree_of(alloc: Global, text: &[u8]) -> Result<Tree, SourceError>
@@ -14,7 +14,6 @@ pub fn tree_of(alloc: Global, text: &[u8]) -> Result<Tree, SourceError>
     match parse(alloc, text) {
         Ok(tree) => Ok(tree),
         Err(TextError::Memory) => Err(SourceError::Memory),
-        Err(TextError::Parse(ParseError::Memory)) => Err(SourceError::Memory),
         Err(error) => Err(SourceError::Text(error)),
     }
 }

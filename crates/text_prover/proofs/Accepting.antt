@@ -1,7 +1,7 @@
 -- A certificate that was made passes its own check.
 use Rattle.std.proofs.Common.{◌≡◌, ℕ, List, map, Result, Ok, ap, ◌∙◌, sym, subst}
-use Rattle.vlog_tree.specs.declared.Tree.{Tree}
-use Rattle.vlog_items.proofs.Once.{one_tree}
+use Rattle.vlog_syntax.specs.declared.module.Tree.{Tree}
+use Rattle.vlog_modules.proofs.Once.{one_tree}
 use Rattle.cert_text.specs.declared.cert.Cert.{Cert}
 use Rattle.cert_text.specs.declared.claim.Claim.{Claim}
 use Rattle.cert_text.specs.Answers.{CertAnswers}

@@ -9,4 +9,5 @@ pub mod Made
 pub mod OneAnswer
 pub mod PointNames
 pub mod StateNames
+pub mod TokenNames
 pub mod TextNames

@@ -1,14 +1,16 @@
 -- A text has one tree, one design and, for a certificate that is accepted, one answer.
 use Rattle.std.proofs.Common.{◌≡◌, ℕ, ◌+◌, List, [], ◌∷◌, Result, Ok, Err, refl, ap, ◌∙◌, sym, subst, inl, inr, arith}
-use Rattle.vlog_tree.specs.declared.Tree.{Tree}
+use Rattle.vlog_syntax.specs.declared.module.Tree.{Tree}
+use Rattle.vlog_tree.specs.declared.Tree as small_tree
 use Rattle.vlog_tree.specs.declared.Module.{Module}
+use Rattle.std.specs.Prelude.{Option, unwrap_or}
 use Rattle.design_core.specs.declared.flat.Design.{Design}
 use Rattle.design_core.specs.declared.setup.Setup.{Setup}
-use Rattle.vlog_items.specs.declared.error.TextError.{TextError}
-use Rattle.vlog_items.specs.declared.error.TextError.TheVariants as text_error
-use Rattle.vlog_items.specs.declared.error.ParseError.TheVariants as parse_error
-use Rattle.vlog_items.specs.Answers.{TextAnswers}
-use Rattle.vlog_items.proofs.Once.{one_tree, not_both, not_too_deep}
+use Rattle.vlog_modules.specs.declared.error.TextError.{TextError}
+use Rattle.vlog_modules.specs.declared.error.TextError.TheVariants as text_error
+use Rattle.vlog_modules.specs.Answers.{TextAnswers}
+use Rattle.vlog_expr.specs.declared.error.ParseError.TheVariants as parse_error
+use Rattle.vlog_modules.proofs.Once.{one_tree, not_both, not_left_out, not_too_deep, not_lexical}
 use Rattle.cert_text.specs.declared.cert.Cert.{Cert}
 use Rattle.cert_text.specs.declared.cert.CertClaim.{CertClaim}
 use Rattle.cert_text.specs.declared.cert.Body.{Body}
@@ -31,6 +33,7 @@ use Rattle.source_check.specs.declared.error.SourceError.TheVariants as source_e
 use Rattle.source_check.specs.declared.error.CheckError.{CheckError}
 use Rattle.source_check.specs.declared.error.CheckError.TheVariants as check_error
 use Rattle.source_check.specs.declared.points.Point.{Point}
+use Rattle.source_check.specs.Built.{IsModule}
 use Rattle.source_check.specs.Flat.{IsDesignOf, design_of}
 use Rattle.source_check.specs.Legal.{IsElaborated, TooCostly}
 use Rattle.source_check.specs.Ladders.{state_names, ladder_of, LadderRefused}
@@ -41,11 +44,19 @@ use Rattle.text_prover.specs.Laws.{GivesOnly, AcceptedIsAccepted}
 
 -- ---- a text that has a tree isn't refused, nor is a certificate that is read
 
+pub tree_or_error : (text : List ℕ) (tree : Tree) (error : TextError) → TextAnswers text (Ok tree) → TextAnswers text (Err error) → error ≡ text_error.Memory
+tree_or_error text tree (text_error.TooLong count) a b = absurd (omega (arith, a.0, b.0))
+tree_or_error text tree (text_error.Lex cause) a b = absurd (not_lexical text tree cause a b)
+tree_or_error text tree (text_error.Parse (parse_error.Expected place what)) a b = absurd (not_both text tree place what a b)
+tree_or_error text tree (text_error.Parse (parse_error.NotInProfile place)) a b = absurd (not_left_out text tree place a b)
+tree_or_error text tree (text_error.Parse (parse_error.TooDeep place)) a b = absurd (not_too_deep text tree place a b)
+tree_or_error text tree (text_error.Parse parse_error.Memory) a b = absurd b
+tree_or_error text tree text_error.Memory a b = refl
+
 not_refused : (text : List ℕ) (tree : Tree) (error : TextError) → TextAnswers text (Ok tree) → TextRefused text error → ⊥
-not_refused text tree (text_error.TooLong count) a b = omega (arith, a.0, b.0)
-not_refused text tree (text_error.Parse (parse_error.Expected place what)) a b = not_both text tree place what a b
-not_refused text tree (text_error.Parse (parse_error.TooDeep place)) a b = not_too_deep text tree place a b
-not_refused text tree (text_error.Parse parse_error.Memory) a b = b
+not_refused text tree (text_error.TooLong count) a b = let lacks : text_error.TooLong count ≡ text_error.Memory = tree_or_error text tree (text_error.TooLong count) a b in cc
+not_refused text tree (text_error.Lex error) a b = let lacks : text_error.Lex error ≡ text_error.Memory = tree_or_error text tree (text_error.Lex error) a b in cc
+not_refused text tree (text_error.Parse error) a b = let lacks : text_error.Parse error ≡ text_error.Memory = tree_or_error text tree (text_error.Parse error) a b in cc
 not_refused text tree text_error.Memory a b = b
 
 not_unread : (bytes : List ℕ) (cert : Cert) (error : CertError) → CertAnswers bytes (Ok cert) → CertRefused bytes error → ⊥
@@ -55,10 +66,16 @@ not_unread bytes cert cert_error.Memory a b = b
 pub one_cert : (bytes : List ℕ) (cert other : Cert) → CertAnswers bytes (Ok cert) → CertAnswers bytes (Ok other) → cert ≡ other
 one_cert bytes cert other a b = one_certificate cert other a.0 b.0 (sym a.1 ∙ b.1)
 
+-- a text is one module of the small language in one way
+one_module : (tree : Tree) (m n : Module) → IsModule tree m → IsModule tree n → m ≡ n
+one_module tree m n a b =
+    let same : m ∷ [] ≡ n ∷ [] = ap (λ (o : Option small_tree.Tree). (unwrap_or o (record { modules = [] })).modules) (sym a ∙ b) in
+    cc
+
 -- a tree has one design
 pub one_design : (tree : Tree) (setup : Setup) (d e : Design) → IsDesignOf tree setup d → IsDesignOf tree setup e → d ≡ e
 one_design tree setup d e a b =
-    let same : a.0 ≡ b.0 = (let k : a.0 ∷ [] ≡ b.0 ∷ [] = sym a.1 ∙ b.1 in cc) in
+    let same : a.0 ≡ b.0 = one_module tree a.0 b.0 a.1 b.1 in
     a.3 ∙ (ap (λ (m : Module). design_of m setup) same ∙ sym b.3)
 
 -- ---- claims that are accepted have no fault

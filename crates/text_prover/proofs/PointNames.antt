@@ -9,7 +9,7 @@ use Rattle.line_text.proofs.Words.{word_from}
 use Rattle.line_text.proofs.Numerals.{number_word}
 use Rattle.design_core.specs.declared.flat.Design.{Design}
 use Rattle.design_core.specs.declared.setup.Setup.{Setup}
-use Rattle.vlog_tree.specs.declared.Tree.{Tree}
+use Rattle.vlog_syntax.specs.declared.module.Tree.{Tree}
 use Rattle.cert_text.specs.Points.{IsName, IsPoint}
 use Rattle.cert_text.specs.Points.IsPoint.{statement}
 use Rattle.cert_text.proofs.Names.{name_word}

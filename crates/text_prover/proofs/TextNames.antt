@@ -1,201 +1,27 @@
 -- The names in the tree of a text begin with a letter or `_`, and have visible bytes alone.
-use Rattle.std.proofs.Common.{◌≡◌, ℕ, ◌<◌, ◌≤◌, Bool, true, false, cond, not, ◌&&◌, ◌||◌, eqb, ltb, leb, List, [], ◌∷◌, ◌++◌, length, Option, Some, None, refl, sym, ap, ◌∙◌, subst, arith, codes, inl, inr, ⊎_elim, lit<}
-use Rattle.std.specs.Prelude.{Ok}
-use Rattle.std.specs.List.{list_all, AllByRecursion}
-use Rattle.std.specs.Str.{bytes_eq}
-use Rattle.std.specs.Char.{is_ascii_alphabetic, is_ascii_alphanumeric}
-use Rattle.std.specs.Int.{is_in_range}
-use Rattle.std.proofs.lemmas.Bool.{false≢true, not-true, eqb-true, ne_eqb, leb-true, le-leb, lt-ltb, and_parts, and_from, or_cases, cases_cond}
-use Rattle.line_text.proofs.Words.{same_bytes}
-use Rattle.word_core.specs.declared.place.Place.{Place}
-use Rattle.vlog_lex.specs.declared.word.Word.{Word}
-use Rattle.vlog_lex.specs.declared.word.Word.TheVariants as w
-use Rattle.vlog_lex.specs.Bytes.{begins_name, goes_on, is_number}
-use Rattle.vlog_lex.specs.Words.{spellings, lookup, spelled, name_or_other, unspelled, or_unspelled, word_of}
-use Rattle.vlog_lex.specs.Tokens.{Token, is_sign, is_token, Divides, none, blank, next}
-use Rattle.vlog_tree.specs.declared.Tree.{Tree}
-use Rattle.vlog_tree.specs.declared.Module.{Module}
-use Rattle.vlog_tree.specs.declared.Port.{Port}
-use Rattle.vlog_tree.specs.declared.Ident.{Ident}
-use Rattle.vlog_grammar.specs.Grammar.{V, same, ident, input, output, port, comma_port, ports, module_form, source, rules}
+use Rattle.std.proofs.Common.{◌≡◌, ℕ, Bool, true, false, cond, List, [], ◌∷◌, ◌++◌, Option, Some, None, map, refl, sym, ap, ◌∙◌, subst}
+use Rattle.std.specs.Prelude.{Ok, unwrap_or, option_map}
+use Rattle.std.specs.List.{AllByRecursion}
+use Rattle.vlog_tokens.specs.declared.word.Word.TheVariants as w
+use Rattle.vlog_tokens.specs.Words.{word_of}
+use Rattle.vlog_tokens.specs.Tokens.{Token}
+use Rattle.vlog_syntax.specs.declared.module.Tree.{Tree}
+use Rattle.vlog_syntax.specs.declared.module.Module.{Module}
+use Rattle.vlog_syntax.specs.declared.module.Port.{Port}
+use Rattle.vlog_syntax.specs.declared.module.Range.{Range}
+use Rattle.vlog_syntax.specs.declared.expr.Ident.{Ident}
+use Rattle.vlog_tree.specs.declared.Tree as small_tree
+use Rattle.vlog_tree.specs.declared.Module as small_module
+use Rattle.vlog_tree.specs.declared.Port as small_port
+use Rattle.vlog_tree.specs.declared.Item as small_item
+use Rattle.vlog_tree.specs.declared.Expr as small_expr
+use Rattle.vlog_built.specs.Options.{with_both, all_there, if_there}
+use Rattle.vlog_built.specs.Narrow.{ident_of as small_ident, expr_of, port_with, port_of, item_of, module_of, narrow}
+use Rattle.vlog_rules.specs.Grammar.{V, same, ident, port, comma_port, ports, module_form, source, rules}
 use Rattle.parsing.specs.Forms.{Form, run, within, Each, Spells, Stands}
-use Rattle.vlog_items.specs.Answers.{TextAnswers}
-use Rattle.cert_text.specs.Points.{is_visible, is_name, IsName, begins_with, IsStateName}
-
--- ---- bytes
-
-in_range : (lo hi b : ℕ) → is_in_range lo hi b ≡ true → (lo ≤ b) × (b ≤ hi)
-in_range lo hi b e = let p = and_parts (leb lo b) (leb b hi) e in (leb-true lo b p.0, leb-true b hi p.1)
-
-alphabetic : (b : ℕ) → is_ascii_alphabetic b ≡ true → (65 ≤ b) × (b ≤ 122)
-alphabetic b e =
-    elim (or_cases (is_in_range 65 90 b) (is_in_range 97 122 b) e) [
-      | inl h ↦ (let p = in_range 65 90 b h in (p.0, omega (arith, p.1)))
-      | inr h ↦ (let p = in_range 97 122 b h in (omega (arith, p.0), p.1))
-    ]
-
-begins : (b : ℕ) → begins_name b ≡ true → (65 ≤ b) × (b ≤ 122)
-begins b e =
-    elim (or_cases (is_ascii_alphabetic b) (eqb b 95) e) [
-      | inl h ↦ alphabetic b h
-      | inr h ↦ (let same = eqb-true b 95 h in (omega arith, omega arith))
-    ]
-
-alphanumeric : (b : ℕ) → is_ascii_alphanumeric b ≡ true → (33 ≤ b) × (b ≤ 126)
-alphanumeric b e =
-    elim (or_cases (is_in_range 48 57 b || is_in_range 65 90 b) (is_in_range 97 122 b) e) [
-      | inl h ↦ elim (or_cases (is_in_range 48 57 b) (is_in_range 65 90 b) h) [
-        | inl i ↦ (let p = in_range 48 57 b i in (omega (arith, p.0), omega (arith, p.1)))
-        | inr i ↦ (let p = in_range 65 90 b i in (omega (arith, p.0), omega (arith, p.1)))
-      ]
-      | inr h ↦ (let p = in_range 97 122 b h in (omega (arith, p.0), omega (arith, p.1)))
-    ]
-
-goes : (b : ℕ) → goes_on b ≡ true → (33 ≤ b) × (b ≤ 126)
-goes b e =
-    elim (or_cases (is_ascii_alphanumeric b || eqb b 95) (eqb b 36) e) [
-      | inl h ↦ elim (or_cases (is_ascii_alphanumeric b) (eqb b 95) h) [
-        | inl i ↦ alphanumeric b i
-        | inr i ↦ (let same = eqb-true b 95 i in (omega arith, omega arith))
-      ]
-      | inr h ↦ (let same = eqb-true b 36 h in (omega arith, omega arith))
-    ]
-
-visible : (b : ℕ) → (33 ≤ b) × (b ≤ 126) → is_visible b ≡ true
-visible b h = and_from (leb 33 b) (leb b 126) (le-leb 33 b h.0) (le-leb b 126 h.1)
-
-all_visible : (bs : List ℕ) → list_all goes_on bs ≡ true → list_all is_visible bs ≡ true
-all_visible [] e = refl
-all_visible (b ∷ bs) e =
-    let p = and_parts (goes_on b) (list_all goes_on bs) e in
-    and_from (is_visible b) (list_all is_visible bs) (visible b (goes b p.0)) (all_visible bs p.1)
-
--- ---- names
-
--- a byte that begins a name, and visible bytes behind it
-pub record IsIdent (name : List ℕ) : Type 0 where
-  pub first : ℕ
-  pub others : List ℕ
-  pub whole : name ≡ first ∷ others
-  pub begins : (65 ≤ first) × (first ≤ 122)
-  pub visible : list_all is_visible others ≡ true
-
-all_append : (xs ys : List ℕ) → list_all is_visible xs ≡ true → list_all is_visible ys ≡ true → list_all is_visible (xs ++ ys) ≡ true
-all_append [] ys a b = b
-all_append (x ∷ xs) ys a b =
-    let p = and_parts (is_visible x) (list_all is_visible xs) a in
-    and_from (is_visible x) (list_all is_visible (xs ++ ys)) p.0 (all_append xs ys p.1 b)
-
-visible_ident : (name : List ℕ) → IsIdent name → list_all is_visible name ≡ true
-visible_ident name h =
-    ap (list_all is_visible) h.whole
-    ∙ and_from (is_visible h.first) (list_all is_visible h.others) (visible h.first (omega (arith, h.begins.0), omega (arith, h.begins.1))) h.visible
-
-pub ident_name : (name : List ℕ) → IsIdent name → IsName name
-ident_name name h =
-    and_from (ltb 0 (length name)) (list_all is_visible name) (lt-ltb 0 (length name) (omega (arith, ap length h.whole))) (visible_ident name h)
-
--- the name of a port in its scope doesn't begin with a minus
-pub scoped_state_name : (path name : List ℕ) → IsIdent path → IsIdent name → IsStateName (path ++ codes "." ++ name)
-scoped_state_name path name p n =
-    let whole : List ℕ = path ++ codes "." ++ name in
-    let same : whole ≡ (p.first ∷ p.others) ++ codes "." ++ name = ap (λ (xs : List ℕ). xs ++ codes "." ++ name) p.whole in
-    let seen : list_all is_visible whole ≡ true = all_append (path ++ codes ".") name (all_append path (codes ".") (visible_ident path p) refl) (visible_ident name n) in
-    let named : is_name whole ≡ true = and_from (ltb 0 (length whole)) (list_all is_visible whole) (lt-ltb 0 (length whole) (omega (arith, ap length same))) seen in
-    let begun : begins_with 45 whole ≡ false = ap (begins_with 45) same ∙ ne_eqb p.first 45 (λ e. absurd (omega (arith, p.begins.0, e))) in
-    and_from (is_name whole) (not (begins_with 45 whole)) named (ap not begun)
-
--- ---- words of the grammar
-
--- no keyword or mark is a name
-is_listed_name : (entries : List (List ℕ × Word)) (text : List ℕ) → list_all (λ (e : List ℕ × Word). not (same w.Name e.1)) entries ≡ true → (word : Word) → lookup entries text ≡ Some word → same w.Name word ≡ true → ⊥
-is_listed_name [] text other word found is = cc
-is_listed_name (entry ∷ entries) text other word found is =
-    let p = and_parts (not (same w.Name entry.1)) (list_all (λ (e : List ℕ × Word). not (same w.Name e.1)) entries) other in
-    elim (cases_cond (bytes_eq entry.0 text) (Some entry.1) (lookup entries text) (Some word) (sym found)) [
-      | inl e ↦ (let this : word ≡ entry.1 = cc in false≢true (sym (not-true (same w.Name entry.1) p.0) ∙ ap (same w.Name) (sym this) ∙ is))
-      | inr e ↦ is_listed_name entries text p.1 word (sym e) is
-    ]
-
-none_listed : list_all (λ (e : List ℕ × Word). not (same w.Name e.1)) spellings ≡ true
-unfolding spellings same
-none_listed = refl
-
-begun_name : (text : List ℕ) → same w.Name (name_or_other text) ≡ true → (b : ℕ) × (bs : List ℕ) × (text ≡ b ∷ bs) × (begins_name b ≡ true)
-unfolding same
-begun_name [] e = absurd (false≢true e)
-begun_name (b ∷ bs) e = by (begins_name b) refl e
-  where
-    by : (t : Bool) → begins_name b ≡ t → same w.Name (cond t w.Name w.Other) ≡ true → (c : ℕ) × (cs : List ℕ) × (b ∷ bs ≡ c ∷ cs) × (begins_name c ≡ true)
-    by true is e = (b, bs, refl, is)
-    by false is e = absurd (false≢true e)
-
-begun_unspelled : (text : List ℕ) → same w.Name (unspelled text) ≡ true → (b : ℕ) × (bs : List ℕ) × (text ≡ b ∷ bs) × (begins_name b ≡ true)
-unfolding same
-begun_unspelled text e = by (is_number text) e
-  where
-    by : (t : Bool) → same w.Name (cond t w.Number (name_or_other text)) ≡ true → (b : ℕ) × (bs : List ℕ) × (text ≡ b ∷ bs) × (begins_name b ≡ true)
-    by true e = absurd (false≢true e)
-    by false e = begun_name text e
-
-begun_word : (text : List ℕ) → same w.Name (word_of text) ≡ true → (b : ℕ) × (bs : List ℕ) × (text ≡ b ∷ bs) × (begins_name b ≡ true)
-unfolding word_of spelled
-begun_word text e = by (lookup spellings text) refl e
-  where
-    by : (o : Option Word) → lookup spellings text ≡ o → same w.Name (or_unspelled text o) ≡ true → (b : ℕ) × (bs : List ℕ) × (text ≡ b ∷ bs) × (begins_name b ≡ true)
-    by (Some word) found e = absurd (is_listed_name spellings text none_listed word found e)
-    by None found e = begun_unspelled text e
-
--- ---- tokens
-
-abbrev IsTokenOf : Token → Type 0
-IsTokenOf t = is_token t.text ≡ true
-
-pub all_tokens : (at : Place) (text : List ℕ) (tokens : List Token) → Divides at text tokens → AllByRecursion IsTokenOf tokens
-all_tokens _ _ _ (none at) = tt
-all_tokens _ _ _ (blank at b bs ts is d) = all_tokens _ bs ts d
-all_tokens _ _ _ (next at taken rest ts longest d) = (longest.token, all_tokens _ rest ts d)
-
--- what begins as a name is no mark and no number
-not_sign : (b : ℕ) (bs : List ℕ) → begins_name b ≡ true → is_sign (b ∷ bs) ≡ true → ⊥
-not_sign b bs begun e =
-    elim (or_cases (bytes_eq (b ∷ bs) (codes "<=") || bytes_eq (b ∷ bs) (codes "^~")) (is_number (b ∷ bs)) e) [
-      | inl h ↦ elim (or_cases (bytes_eq (b ∷ bs) (codes "<=")) (bytes_eq (b ∷ bs) (codes "^~")) h) [
-        | inl i ↦ begins_by 60 (61 ∷ []) (lit< tt) i
-        | inr i ↦ begins_by_caret i
-      ]
-      | inr h ↦ elim (or_cases (bytes_eq (b ∷ bs) (codes "1'b0")) (bytes_eq (b ∷ bs) (codes "1'b1")) h) [
-        | inl i ↦ begins_by 49 (39 ∷ 98 ∷ 48 ∷ []) (lit< tt) i
-        | inr i ↦ begins_by 49 (39 ∷ 98 ∷ 49 ∷ []) (lit< tt) i
-      ]
-    ]
-  where
-    begins_by : (c : ℕ) (cs : List ℕ) → c < 65 → bytes_eq (b ∷ bs) (c ∷ cs) ≡ true → ⊥
-    begins_by c cs lt i =
-        let whole = same_bytes (b ∷ bs) (c ∷ cs) i in
-        let head : b ≡ c = cc in
-        let range = begins b begun in
-        omega (arith, head, range.0, lt)
-
-    begins_by_caret : bytes_eq (b ∷ bs) (94 ∷ 126 ∷ []) ≡ true → ⊥
-    begins_by_caret i =
-        let whole = same_bytes (b ∷ bs) (94 ∷ 126 ∷ []) i in
-        let head : b ≡ 94 = cc in
-        false≢true (ap begins_name (sym head) ∙ begun)
-
-token_ident : (b : ℕ) (bs : List ℕ) → begins_name b ≡ true → is_token (b ∷ bs) ≡ true → IsIdent (b ∷ bs)
-token_ident b [] begun is = record { first = b; others = []; whole = refl; begins = begins b begun; visible = refl }
-token_ident b (c ∷ cs) begun is =
-    elim (or_cases ((begins_name b || eqb b 36) && list_all goes_on (c ∷ cs)) (is_sign (b ∷ c ∷ cs)) is) [
-      | inl h ↦ (let p = and_parts (begins_name b || eqb b 36) (list_all goes_on (c ∷ cs)) h in
-          record { first = b; others = c ∷ cs; whole = refl; begins = begins b begun; visible = all_visible (c ∷ cs) p.1 })
-      | inr h ↦ absurd (not_sign b (c ∷ cs) begun h)
-    ]
-
-name_token : (t : Token) → IsTokenOf t → same w.Name (word_of t.text) ≡ true → IsIdent t.text
-name_token t is named =
-    let begun = begun_word t.text named in
-    subst IsIdent (sym begun.2) (token_ident begun.0 begun.1 begun.3 (subst (λ text. is_token text ≡ true) begun.2 is))
+use Rattle.vlog_modules.specs.Answers.{TextAnswers}
+use Rattle.source_check.specs.Built.{IsModule}
+use Rattle.text_prover.proofs.TokenNames.{IsIdent, IsTokenOf, tokens_of, name_token}
 
 -- ---- the derivation
 
@@ -223,30 +49,21 @@ ident_named l x ts r all h =
     let here : AllByRecursion IsTokenOf (t ∷ []) = subst (AllByRecursion IsTokenOf) alone all in
     subst IsIdent (sym (ap (λ (i : Ident). i.name) is)) (name_token t here.0 (only_name t named))
 
-abbrev pub HasIdent : Port → Type 0
+abbrev HasIdent : Port → Type 0
 HasIdent p = IsIdent p.name.name
-
-input_named : (l : ℕ) (p : Port) (ts r : List Token) → AllByRecursion IsTokenOf ts → Spelled input l p ts r → HasIdent p
-unfolding input
-input_named l p ts r all h =
-    let (x, is, (us, vs, cut, head, name)) = h in
-    subst IsIdent (sym (ap (λ (q : Port). q.name.name) is)) (ident_named l x.1 vs r (split us vs ts cut all).1 name)
-
-output_named : (l : ℕ) (p : Port) (ts r : List Token) → AllByRecursion IsTokenOf ts → Spelled output l p ts r → HasIdent p
-unfolding output
-output_named l p ts r all h =
-    let (x, is, (us, vs, cut, head, more)) = h in
-    let (y, y_is, (us', vs', cut', reg, rest)) = more in
-    let (us'', vs'', cut'', name, value) = rest in
-    let outer = (split us vs ts cut all).1 in
-    let inner = (split us' vs' vs cut' outer).1 in
-    let here = (split us'' vs'' vs' cut'' inner).0 in
-    let y_name : x.1.0 ≡ y.1.0 = ap (λ z. z.0) y_is in
-    subst IsIdent (sym (ap (λ (q : Port). q.name.name) is ∙ ap (λ (i : Ident). i.name) y_name)) (ident_named l y.1.0 us'' (vs'' ++ r) here name)
 
 port_named : (l : ℕ) (p : Port) (ts r : List Token) → AllByRecursion IsTokenOf ts → Spelled port l p ts r → HasIdent p
 unfolding port
-port_named l p ts r all h = ⊎_elim (λ i. input_named l p ts r all i) (λ o. output_named l p ts r all o) h
+port_named l p ts r all h =
+    let (x, is, (us, vs, cut, head, rest)) = h in
+    let (us1, vs1, cut1, kinds, rest1) = rest in
+    let (us2, vs2, cut2, ranged, rest2) = rest1 in
+    let (us3, vs3, cut3, named, value) = rest2 in
+    let all1 = (split us vs ts cut all).1 in
+    let all2 = (split us1 vs1 vs cut1 all1).1 in
+    let all3 = (split us2 vs2 vs1 cut2 all2).1 in
+    let here = (split us3 vs3 vs2 cut3 all3).0 in
+    subst IsIdent (sym (ap (λ (q : Port). q.name.name) is)) (ident_named l x.1.1.1.0 us3 (vs3 ++ r) here named)
 
 comma_named : (l : ℕ) (p : Port) (ts r : List Token) → AllByRecursion IsTokenOf ts → Spelled comma_port l p ts r → HasIdent p
 unfolding comma_port
@@ -277,9 +94,9 @@ ports_named l ps ts r all h =
     let inner = (split us' vs' vs cut' outer).0 in
     subst (AllByRecursion HasIdent) (sym (is ∙ y_is)) (run_named l y.0 us' (vs' ++ r) inner inside)
 
-pub record HasNames (m : Module) : Type 0 where
-  pub name : IsIdent m.name.name
-  pub ports : AllByRecursion HasIdent m.ports
+record HasNames (m : Module) : Type 0 where
+  name : IsIdent m.name.name
+  ports : AllByRecursion HasIdent m.ports
 
 module_named : (l : ℕ) (m : Module) (ts r : List Token) → AllByRecursion IsTokenOf ts → Spelled module_form l m ts r → HasNames m
 unfolding module_form
@@ -297,11 +114,81 @@ module_named l m ts r all h =
       ports = subst (AllByRecursion HasIdent) (sym (ap (λ (x : Module). x.ports) is ∙ y_is)) (ports_named l y.0 us3 (vs3 ++ (vs'' ++ r)) all4 listed);
     }
 
--- the names of the one module of a text
-pub text_names : (text : List ℕ) (tree : Tree) (m : Module) → TextAnswers text (Ok tree) → tree.modules ≡ m ∷ [] → HasNames m
+-- the names of a text's modules
+wide_names : (text : List ℕ) (tree : Tree) → TextAnswers text (Ok tree) → (m : Module) × (tree.modules ≡ m ∷ []) × HasNames m
 unfolding source
-text_names text tree m h one =
+wide_names text tree h =
     let (short, tokens, divides, derived) = h in
     let (x, is, spelled') = derived.derived in
-    let same : x ≡ m = (let k : x ∷ [] ≡ m ∷ [] = sym (ap (λ (t : Tree). t.modules) is) ∙ one in cc) in
-    subst HasNames same (module_named 256 x tokens [] (all_tokens _ text tokens divides) spelled')
+    (x, ap (λ (t : Tree). t.modules) is, module_named 256 x tokens [] (tokens_of text tokens divides) spelled')
+
+-- ---- names are kept where the tree is one of the small language
+
+abbrev pub HasSmallIdent : small_port.Port → Type 0
+HasSmallIdent p = IsIdent p.name.name
+
+pub record HasSmallNames (m : small_module.Module) : Type 0 where
+  pub name : IsIdent m.name.name
+  pub ports : AllByRecursion HasSmallIdent m.ports
+
+not_some : {A : Type 0} (a : A) (o : Option A) → o ≡ None → o ≡ Some a → ⊥
+not_some a o e f = cc
+
+port_kept : (x : Port) (p : small_port.Port) → port_of x ≡ Some p → x.name.name ≡ p.name.name
+port_kept x p e = by x.range (if_there (option_map expr_of x.value)) e
+  where
+    by : (r : Option Range) (v : Option (Option small_expr.Expr)) → port_with x r v ≡ Some p → x.name.name ≡ p.name.name
+    by None (Some v) e = ap (λ o. (unwrap_or o p).name.name) e
+    by None None e = absurd (not_some p None refl e)
+    by (Some r) v e = absurd (not_some p None refl e)
+
+one_kept : (o : Option small_port.Port) (os : Option (List small_port.Port)) (ps : List small_port.Port) → ((p : small_port.Port) → o ≡ Some p → HasSmallIdent p) →
+    ((qs : List small_port.Port) → os ≡ Some qs → AllByRecursion HasSmallIdent qs) → with_both (λ x xs. x ∷ xs) o os ≡ Some ps → AllByRecursion HasSmallIdent ps
+one_kept None os ps one more e = absurd (not_some ps None refl e)
+one_kept (Some p) None ps one more e = absurd (not_some ps None refl e)
+one_kept (Some p) (Some qs) ps one more e =
+    let whole : p ∷ qs ≡ ps = ap (λ o. unwrap_or o ps) e in
+    subst (AllByRecursion HasSmallIdent) whole (one p refl, more qs refl)
+
+ports_kept : (xs : List Port) (ps : List small_port.Port) → AllByRecursion HasIdent xs → all_there (map port_of xs) ≡ Some ps → AllByRecursion HasSmallIdent ps
+ports_kept [] ps all e =
+    let none : [] ≡ ps = ap (λ o. unwrap_or o ps) e in
+    subst (AllByRecursion HasSmallIdent) none tt
+ports_kept (x ∷ xs) ps all e =
+    one_kept (port_of x) (all_there (map port_of xs)) ps (λ p h. subst IsIdent (port_kept x p h) all.0) (λ qs h. ports_kept xs qs all.1 h) e
+
+abbrev made : Module → List small_port.Port → List small_item.Item → small_module.Module
+made x ports items = record { at = x.at; name = small_ident x.name; ports = ports; items = items }
+
+module_kept : (x : Module) (m : small_module.Module) → HasNames x → module_of x ≡ Some m → HasSmallNames m
+module_kept x m names e = by (all_there (map port_of x.ports)) (all_there (map item_of x.items)) (λ qs h. ports_kept x.ports qs names.ports h) e
+  where
+    by : (ps : Option (List small_port.Port)) (is : Option (List small_item.Item)) → ((qs : List small_port.Port) → ps ≡ Some qs → AllByRecursion HasSmallIdent qs) →
+        with_both (made x) ps is ≡ Some m → HasSmallNames m
+    by None is kept e = absurd (not_some m None refl e)
+    by (Some ps) None kept e = absurd (not_some m None refl e)
+    by (Some ps) (Some is) kept e = record {
+      name = subst IsIdent (ap (λ o. (unwrap_or o m).name.name) e) names.name;
+      ports = subst (AllByRecursion HasSmallIdent) (ap (λ o. (unwrap_or o m).ports) e) (kept ps refl);
+    }
+
+abbrev tree_of : List small_module.Module → small_tree.Tree
+tree_of modules = record { modules = modules }
+
+-- a text that is one module of the small language has one module, which becomes it
+one_module : (x : Module) (m : small_module.Module) (o : Option small_module.Module) → option_map tree_of (with_both (λ y ys. y ∷ ys) o (Some [])) ≡ Some (tree_of (m ∷ [])) → o ≡ Some m
+one_module x m None e = absurd (not_some (tree_of (m ∷ [])) None refl e)
+one_module x m (Some s) e =
+    let same : s ≡ m = (let k : s ∷ [] ≡ m ∷ [] = ap (λ o. (unwrap_or o (tree_of [])).modules) e in cc) in
+    ap Some same
+
+module_is : (tree : Tree) (x : Module) (m : small_module.Module) → tree.modules ≡ x ∷ [] → IsModule tree m → module_of x ≡ Some m
+unfolding narrow
+module_is tree x m one is =
+    one_module x m (module_of x) (ap (λ (ms : List Module). option_map tree_of (all_there (map module_of ms))) (sym one) ∙ is)
+
+-- the names of the one module of a text
+pub text_names : (text : List ℕ) (tree : Tree) (m : small_module.Module) → TextAnswers text (Ok tree) → IsModule tree m → HasSmallNames m
+text_names text tree m h is =
+    let (x, one, names) = wide_names text tree h in
+    module_kept x m names (module_is tree x m one is)

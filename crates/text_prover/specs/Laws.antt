@@ -1,7 +1,7 @@
 -- What checking answers for a certificate that is accepted.
 use Rattle.std.specs.Prelude.{ℕ, ◌≡◌, List, Result, Ok, Err}
-use Rattle.vlog_tree.specs.declared.Tree.{Tree}
-use Rattle.vlog_items.specs.Answers.{TextAnswers}
+use Rattle.vlog_syntax.specs.declared.module.Tree.{Tree}
+use Rattle.vlog_modules.specs.Answers.{TextAnswers}
 use Rattle.cert_text.specs.declared.cert.Cert.{Cert}
 use Rattle.cert_text.specs.declared.claim.Claim.{Claim}
 use Rattle.cert_text.specs.Answers.{CertAnswers}

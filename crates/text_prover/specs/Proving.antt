@@ -1,7 +1,7 @@
 -- What is proved of a text.
 use Rattle.std.specs.Prelude.{ℕ, ◌≡◌, true, false, List, [], map, Result, Ok, Err}
-use Rattle.vlog_tree.specs.declared.Tree.{Tree}
-use Rattle.vlog_items.specs.Answers.{TextAnswers}
+use Rattle.vlog_syntax.specs.declared.module.Tree.{Tree}
+use Rattle.vlog_modules.specs.Answers.{TextAnswers}
 use Rattle.design_core.specs.declared.setup.Setup.{Setup}
 use Rattle.cert_text.specs.declared.cert.Cert.{Cert}
 use Rattle.cert_text.specs.declared.claim.Claim.{Claim}

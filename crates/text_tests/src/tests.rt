@@ -4,5 +4,4 @@ mod claims;
 mod desks;
 mod names;
 mod numbers;
-mod tokens;
 mod trees;

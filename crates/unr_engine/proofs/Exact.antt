@@ -3,15 +3,16 @@ use Rattle.std.proofs.Common.{◌≡◌, ◌⊎◌, ℕ, Bool, false, ◌+◌, �
 use Rattle.unr_io.specs.declared.desk.Kind.TheVariants.{Load, Store}
 use Rattle.unr_io.specs.Desk.{DeskState, Told, Rose}
 use Rattle.unr_io.specs.Sink.{SinkState}
-use Rattle.vlog_tree.specs.declared.Tree.{Tree}
-use Rattle.vlog_tree.specs.declared.Module.{Module}
+use Rattle.vlog_syntax.specs.declared.module.Tree.{Tree}
 use Rattle.design_core.specs.declared.flat.Design.{Design}
 use Rattle.design_core.specs.declared.setup.Setup.{Setup}
-use Rattle.vlog_items.specs.declared.error.TextError.{TextError}
-use Rattle.vlog_items.specs.declared.error.TextError.TheVariants as text_error
-use Rattle.vlog_items.specs.declared.error.ParseError.TheVariants as parse_error
-use Rattle.vlog_items.specs.Answers.{TextAnswers}
-use Rattle.vlog_items.proofs.Once.{one_tree, not_both, not_too_deep}
+use Rattle.vlog_modules.specs.declared.error.TextError.{TextError}
+use Rattle.vlog_modules.specs.declared.error.TextError.TheVariants as text_error
+use Rattle.vlog_tokens.specs.declared.error.LexError.{LexError}
+use Rattle.vlog_tokens.specs.declared.error.LexError.TheVariants as lex_error
+use Rattle.vlog_expr.specs.declared.error.ParseError.TheVariants as parse_error
+use Rattle.vlog_modules.specs.Answers.{TextAnswers}
+use Rattle.vlog_modules.proofs.Once.{one_tree}
 use Rattle.cert_text.specs.declared.cert.Cert.{Cert}
 use Rattle.cert_text.specs.declared.cert.CertClaim.{CertClaim}
 use Rattle.cert_text.specs.declared.error.CertError.{CertError}
@@ -24,7 +25,8 @@ use Rattle.source_check.specs.declared.error.SourceError.TheVariants as source_e
 use Rattle.source_check.specs.declared.error.CheckError.{CheckError}
 use Rattle.source_check.specs.declared.error.CheckError.TheVariants as check_error
 use Rattle.source_check.specs.declared.points.Point.{Point}
-use Rattle.source_check.specs.Flat.{IsDesignOf, design_of}
+use Rattle.source_check.specs.Flat.{IsDesignOf}
+use Rattle.text_prover.proofs.OneAnswer.{tree_or_error, one_design as design_once}
 use Rattle.source_check.specs.Built.{IsBuilt}
 use Rattle.source_check.specs.Checking.{ReadAndJudged}
 use Rattle.bit_system.specs.Machine.{Machine}
@@ -41,7 +43,7 @@ use Rattle.source_check.specs.Legal.{IsElaborated, TooCostly}
 use Rattle.source_check.specs.Ladders.{state_names, ladder_of, LadderRefused}
 use Rattle.source_check.specs.Judging.{system_of, Judges, Holds, Accepted, FirstFault, Fails, FailFirst}
 use Rattle.source_check.specs.Points.{points_of}
-use Rattle.unr_engine.specs.Statuses.{text_status, cert_status, check_status, refusal_status, status_of}
+use Rattle.unr_engine.specs.Statuses.{lex_status, text_status, cert_status, check_status, refusal_status, status_of}
 use Rattle.unr_engine.specs.declared.stop.Refusal.{Refusal}
 use Rattle.unr_engine.specs.declared.stop.Refusal.TheVariants as refusal
 use Rattle.unr_engine.specs.Words.{Check_files, Names}
@@ -54,11 +56,7 @@ use Rattle.unr_engine.proofs.Kept.{told_of, ran_of}
 
 -- a text that has a tree is refused for want of memory alone
 pub text_or_none : (text : List ℕ) (tree : Tree) (error : TextError) → TextAnswers text (Ok tree) → TextAnswers text (Err error) → text_status error ≡ 7
-text_or_none text tree (text_error.TooLong count) a b = absurd (omega (arith, a.0, b.0))
-text_or_none text tree (text_error.Parse (parse_error.Expected place what)) a b = absurd (not_both text tree place what a b)
-text_or_none text tree (text_error.Parse (parse_error.TooDeep place)) a b = absurd (not_too_deep text tree place a b)
-text_or_none text tree (text_error.Parse parse_error.Memory) a b = refl
-text_or_none text tree text_error.Memory a b = refl
+text_or_none text tree error a b = ap text_status (tree_or_error text tree error a b)
 
 -- and so is a certificate
 cert_or_none : (text : List ℕ) (cert : Cert) (error : CertError) → CertAnswers text (Ok cert) → CertAnswers text (Err error) → cert_status error ≡ 7
@@ -71,8 +69,7 @@ one_cert text cert other a b = one_certificate cert other a.0 b.0 (sym a.1 ∙ b
 -- a text has one design
 pub one_design : (tree : Tree) (setup : Setup) (d e : Design) → IsDesignOf tree setup d → IsDesignOf tree setup e → d ≡ e
 one_design tree setup d e a b =
-    let same : a.0 ≡ b.0 = (let k : a.0 ∷ [] ≡ b.0 ∷ [] = sym a.1 ∙ b.1 in cc) in
-    a.3 ∙ (ap (λ (m : Module). design_of m setup) same ∙ sym b.3)
+    design_once tree setup d e a b
 
 -- a ladder that is refused isn't accepted
 shows_or_not : (m : Machine) (k : ℕ) (l : Ladder) (f : LadderFault) → IsAccepted m k l → LadderRefused m k l f → ⊥
@@ -182,9 +179,18 @@ are_judged_alike text spelling x y a b =
     judged_alike a.0 a.1 x y a.4 (subst Q cert (subst P tree b.4))
 
 -- statuses of refusals
+lex_four : (error : LexError) → (lex_status error ≡ 4) ⊎ (lex_status error ≡ 7)
+lex_four (lex_error.BadDirective place) = inl refl
+lex_four (lex_error.BadChar place) = inl refl
+lex_four (lex_error.BadNumber place) = inl refl
+lex_four (lex_error.Unclosed place) = inl refl
+lex_four lex_error.Memory = inr refl
+
 pub text_four : (error : TextError) → (text_status error ≡ 4) ⊎ (text_status error ≡ 7)
 text_four (text_error.TooLong count) = inl refl
+text_four (text_error.Lex error) = lex_four error
 text_four (text_error.Parse (parse_error.Expected place what)) = inl refl
+text_four (text_error.Parse (parse_error.NotInProfile place)) = inl refl
 text_four (text_error.Parse (parse_error.TooDeep place)) = inl refl
 text_four (text_error.Parse parse_error.Memory) = inr refl
 text_four text_error.Memory = inr refl

@@ -5,10 +5,12 @@ use Rattle.unr_io.specs.declared.desk.Kind.{Kind}
 use Rattle.unr_io.specs.declared.desk.Kind.TheVariants.{Load, Store}
 use Rattle.unr_io.specs.Desk.{DeskState, Told, Tells, Rose, file_at}
 use Rattle.unr_io.specs.Sink.{SinkState, appended}
-use Rattle.vlog_items.specs.declared.error.TextError.{TextError}
-use Rattle.vlog_items.specs.declared.error.TextError.TheVariants as text
-use Rattle.vlog_items.specs.declared.error.ParseError.{ParseError}
-use Rattle.vlog_items.specs.declared.error.ParseError.TheVariants as parse
+use Rattle.vlog_modules.specs.declared.error.TextError.{TextError}
+use Rattle.vlog_modules.specs.declared.error.TextError.TheVariants as text
+use Rattle.vlog_expr.specs.declared.error.ParseError.{ParseError}
+use Rattle.vlog_expr.specs.declared.error.ParseError.TheVariants as parse
+use Rattle.vlog_tokens.specs.declared.error.LexError.{LexError}
+use Rattle.vlog_tokens.specs.declared.error.LexError.TheVariants as lex
 use Rattle.cert_text.specs.declared.error.CertError.{CertError}
 use Rattle.cert_text.specs.declared.error.CertError.TheVariants as cert
 use Rattle.source_check.specs.declared.error.SourceError.{SourceError}
@@ -20,7 +22,7 @@ use Rattle.unr_engine.specs.declared.stop.Refusal.TheVariants as refusal
 use Rattle.unr_engine.specs.Words.{Command, Check_files, Prove_file, Names, NamesNothing}
 use Rattle.unr_engine.specs.Content.{Work, Answers}
 use Rattle.unr_engine.specs.Ends.{End, Done, Stopped, Not_words, Fault_at, Fault_of_output, Out_of_memory, Not_taken}
-use Rattle.unr_engine.specs.Statuses.{parse_status, text_status, cert_status, source_status, check_status, refusal_status, status_of}
+use Rattle.unr_engine.specs.Statuses.{lex_status, parse_status, text_status, cert_status, source_status, check_status, refusal_status, status_of}
 use Rattle.unr_engine.specs.Messages.{message_of}
 use Rattle.unr_engine.specs.Outcome.{IsFrontOf, next_load, load_calls, loads_of, stores_of, Written, store_calls, failed_call, DeskKept, HasReason, Ran, Ended, Says, Outcome}
 use Rattle.unr_engine.specs.Promises.{AreTold, Accepts, Rejects, calls_for, stores_at, all_calls, MakesCalls, CalledLast, Blames, PutsPart, FilesStay, IsNoneOf, OthersStay}
@@ -34,11 +36,20 @@ IsRefusalStatus status = (status ≡ 4) ⊎ ((status ≡ 5) ⊎ (status ≡ 7))
 
 of_parse : (error : ParseError) → IsRefusalStatus (parse_status error)
 of_parse (parse.Expected place what) = inl refl
+of_parse (parse.NotInProfile place) = inl refl
 of_parse (parse.TooDeep place) = inl refl
 of_parse parse.Memory = inr (inr refl)
 
+of_lex : (error : LexError) → IsRefusalStatus (lex_status error)
+of_lex (lex.BadDirective place) = inl refl
+of_lex (lex.BadChar place) = inl refl
+of_lex (lex.BadNumber place) = inl refl
+of_lex (lex.Unclosed place) = inl refl
+of_lex lex.Memory = inr (inr refl)
+
 of_text : (error : TextError) → IsRefusalStatus (text_status error)
 of_text (text.TooLong count) = inl refl
+of_text (text.Lex error) = of_lex error
 of_text (text.Parse error) = of_parse error
 of_text text.Memory = inr (inr refl)
 

@@ -5,12 +5,11 @@ use Rattle.std.proofs.lemmas.Bool.Decides.{Decides-ltb}
 use Rattle.unr_io.specs.declared.desk.Kind.TheVariants.{Load, Store}
 use Rattle.unr_io.specs.Desk.{DeskState, Told, Tells, Rose, file_at}
 use Rattle.unr_io.specs.Sink.{SinkState, appended}
-use Rattle.vlog_tree.specs.declared.Tree.{Tree}
-use Rattle.vlog_items.specs.declared.error.TextError.{TextError}
-use Rattle.vlog_items.specs.declared.error.TextError.TheVariants as text_error
-use Rattle.vlog_items.specs.declared.error.ParseError.TheVariants as parse_error
-use Rattle.vlog_items.specs.Answers.{TextAnswers}
-use Rattle.vlog_items.proofs.Once.{one_tree}
+use Rattle.vlog_syntax.specs.declared.module.Tree.{Tree}
+use Rattle.vlog_modules.specs.declared.error.TextError.{TextError}
+use Rattle.vlog_modules.specs.declared.error.TextError.TheVariants as text_error
+use Rattle.vlog_modules.specs.Answers.{TextAnswers}
+use Rattle.vlog_modules.proofs.Once.{one_tree}
 use Rattle.design_core.specs.declared.flat.Design.{Design}
 use Rattle.design_core.specs.declared.setup.Setup.{Setup}
 use Rattle.source_check.specs.declared.error.SourceError.{SourceError}
@@ -146,9 +145,8 @@ record HasDesign (text : List ℕ) (setup : Setup) : Type 0 where
 
 refused_text : (text : List ℕ) (error : TextError) → TextRefused text error → TextAnswers text (Err error)
 refused_text text (text_error.TooLong count) r = r
-refused_text text (text_error.Parse (parse_error.Expected place what)) r = r
-refused_text text (text_error.Parse (parse_error.TooDeep place)) r = r
-refused_text text (text_error.Parse parse_error.Memory) r = absurd r
+refused_text text (text_error.Lex error) r = r
+refused_text text (text_error.Parse error) r = r
 refused_text text text_error.Memory r = absurd r
 
 -- then it is refused for want of memory alone

@@ -1,7 +1,7 @@
 -- What the bytes of its files make a command do.
 use Rattle.std.specs.Prelude.{◌≡◌, ℕ, Bool, false, List, [], ◌∷◌, ◌++◌, Ok, Err, codes}
-use Rattle.vlog_tree.specs.declared.Tree.{Tree}
-use Rattle.vlog_items.specs.Answers.{TextAnswers}
+use Rattle.vlog_syntax.specs.declared.module.Tree.{Tree}
+use Rattle.vlog_modules.specs.Answers.{TextAnswers}
 use Rattle.cert_text.specs.declared.error.CertError.{CertError}
 use Rattle.cert_text.specs.declared.claim.Claim.{Claim}
 use Rattle.cert_text.specs.Answers.{CertAnswers}

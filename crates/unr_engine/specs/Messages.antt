@@ -1,9 +1,12 @@
 -- The one line that a run puts on the error output, and its line feed. Nothing where it is done.
 use Rattle.std.specs.Prelude.{ℕ, List, [], ◌++◌, codes, decimal}
-use Rattle.vlog_items.specs.declared.error.TextError.{TextError}
-use Rattle.vlog_items.specs.declared.error.TextError.TheVariants as text
-use Rattle.vlog_items.specs.declared.error.ParseError.{ParseError}
-use Rattle.vlog_items.specs.declared.error.ParseError.TheVariants as parse
+use Rattle.vlog_modules.specs.declared.error.TextError.{TextError}
+use Rattle.vlog_modules.specs.declared.error.TextError.TheVariants as text
+use Rattle.vlog_expr.specs.declared.error.ParseError.{ParseError}
+use Rattle.vlog_expr.specs.declared.error.ParseError.TheVariants as parse
+use Rattle.vlog_tokens.specs.declared.error.LexError.{LexError}
+use Rattle.vlog_tokens.specs.declared.error.LexError.TheVariants as lex
+use Rattle.word_core.specs.declared.place.Place.{Place}
 use Rattle.cert_text.specs.declared.error.CertError.{CertError}
 use Rattle.cert_text.specs.declared.error.CertError.TheVariants as cert
 use Rattle.source_check.specs.declared.error.SourceError.{SourceError}
@@ -24,15 +27,26 @@ use Rattle.unr_engine.specs.Ends.{Why, Not_words, Fault_at, Fault_of_output, Out
 abbrev pub memory_message : List ℕ
 memory_message = codes "unr: memory\n"
 
+-- a message that names a place of the source
+abbrev pub place_message : Place → List ℕ → List ℕ
+place_message place rest = codes "unr: source " ++ (decimal place.line ++ (codes ":" ++ (decimal place.col ++ rest)))
+
+abbrev pub lex_message : LexError → List ℕ
+lex_message (lex.BadDirective place) = place_message place (codes " BadDirective\n")
+lex_message (lex.BadChar place) = place_message place (codes " BadChar\n")
+lex_message (lex.BadNumber place) = place_message place (codes " BadNumber\n")
+lex_message (lex.Unclosed place) = place_message place (codes " Unclosed\n")
+lex_message lex.Memory = memory_message
+
 abbrev pub parse_message : ParseError → List ℕ
-parse_message (parse.Expected place what) =
-    codes "unr: source " ++ (decimal place.line ++ (codes ":" ++ (decimal place.col ++ (codes " Expected " ++ (what ++ codes "\n")))))
-parse_message (parse.TooDeep place) =
-    codes "unr: source " ++ (decimal place.line ++ (codes ":" ++ (decimal place.col ++ codes " TooDeep\n")))
+parse_message (parse.Expected place what) = place_message place (codes " Expected " ++ (what ++ codes "\n"))
+parse_message (parse.NotInProfile place) = place_message place (codes " NotInProfile\n")
+parse_message (parse.TooDeep place) = place_message place (codes " TooDeep\n")
 parse_message parse.Memory = memory_message
 
 abbrev pub text_message : TextError → List ℕ
 text_message (text.TooLong count) = codes "unr: source TooLong " ++ (decimal count ++ codes "\n")
+text_message (text.Lex error) = lex_message error
 text_message (text.Parse error) = parse_message error
 text_message text.Memory = memory_message
 
@@ -42,8 +56,7 @@ cert_message cert.Memory = memory_message
 
 abbrev pub source_message : SourceError → List ℕ
 source_message (source.Text error) = text_message error
-source_message (source.NotBuilt place) =
-    codes "unr: source " ++ (decimal place.line ++ (codes ":" ++ (decimal place.col ++ codes " NotBuilt\n")))
+source_message (source.NotBuilt place) = place_message place (codes " NotBuilt\n")
 source_message (source.CostOver cost) = codes "unr: source CostOver " ++ (decimal cost ++ codes "\n")
 source_message source.Memory = memory_message
 

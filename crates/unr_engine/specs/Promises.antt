@@ -4,8 +4,8 @@ use Rattle.unr_io.specs.declared.desk.Kind.{Kind}
 use Rattle.unr_io.specs.declared.desk.Kind.TheVariants.{Load, Store}
 use Rattle.unr_io.specs.Desk.{DeskState, Told, Tells, Rose, file_at}
 use Rattle.unr_io.specs.Sink.{SinkState, appended}
-use Rattle.vlog_items.specs.declared.error.TextError.{TextError}
-use Rattle.vlog_items.specs.Answers.{TextAnswers}
+use Rattle.vlog_modules.specs.declared.error.TextError.{TextError}
+use Rattle.vlog_modules.specs.Answers.{TextAnswers}
 use Rattle.cert_text.specs.declared.error.CertError.{CertError}
 use Rattle.cert_text.specs.declared.claim.Claim.{Claim}
 use Rattle.source_check.specs.declared.error.CheckError.{CheckError}

@@ -1,9 +1,11 @@
 -- The status with which a run ends: 0 where it is done, 1 where it is done and a claim that it wrote is left open, 2 for words that name nothing, 3 for a fault, 4 for a text and 5 for a certificate that is refused, 7 for want of memory.
 use Rattle.std.specs.Prelude.{ℕ, true, false}
-use Rattle.vlog_items.specs.declared.error.TextError.{TextError}
-use Rattle.vlog_items.specs.declared.error.TextError.TheVariants as text
-use Rattle.vlog_items.specs.declared.error.ParseError.{ParseError}
-use Rattle.vlog_items.specs.declared.error.ParseError.TheVariants as parse
+use Rattle.vlog_modules.specs.declared.error.TextError.{TextError}
+use Rattle.vlog_modules.specs.declared.error.TextError.TheVariants as text
+use Rattle.vlog_expr.specs.declared.error.ParseError.{ParseError}
+use Rattle.vlog_expr.specs.declared.error.ParseError.TheVariants as parse
+use Rattle.vlog_tokens.specs.declared.error.LexError.{LexError}
+use Rattle.vlog_tokens.specs.declared.error.LexError.TheVariants as lex
 use Rattle.cert_text.specs.declared.error.CertError.{CertError}
 use Rattle.cert_text.specs.declared.error.CertError.TheVariants as cert
 use Rattle.source_check.specs.declared.error.SourceError.{SourceError}
@@ -16,11 +18,20 @@ use Rattle.unr_engine.specs.Ends.{Why, Not_words, Fault_at, Fault_of_output, Out
 
 abbrev pub parse_status : ParseError → ℕ
 parse_status (parse.Expected place what) = 4
+parse_status (parse.NotInProfile place) = 4
 parse_status (parse.TooDeep place) = 4
 parse_status parse.Memory = 7
 
+abbrev pub lex_status : LexError → ℕ
+lex_status (lex.BadDirective place) = 4
+lex_status (lex.BadChar place) = 4
+lex_status (lex.BadNumber place) = 4
+lex_status (lex.Unclosed place) = 4
+lex_status lex.Memory = 7
+
 abbrev pub text_status : TextError → ℕ
 text_status (text.TooLong count) = 4
+text_status (text.Lex error) = lex_status error
 text_status (text.Parse error) = parse_status error
 text_status text.Memory = 7
 

@@ -11,7 +11,7 @@ use cert_text::read_cert;
 use source_check::judge;
 use std::alloc::Global;
 use unr_io::{Desk, Sink};
-use vlog_items::parse;
+use vlog_modules::parse;
 
 /// Checks the certificate in CERT for the text in FILE, and puts out the report of its claims. It writes no claim, so it answers that none is left open.
 pub fn check_files<'a, D: Desk, O: Sink>(

@@ -1,8 +1,8 @@
 // The whole of a run: the words, the command that they name, the message and the status.
 ghost use Rattle.std.specs.Prelude.{◌≡◌, ◌≢◌, ◌⊎◌, ◌↔◌, List, ℕ, Result};
 ghost use Rattle.unr_io.specs.Desk.{Tells, Rose};
-ghost use Rattle.vlog_items.specs.declared.error.TextError.{TextError};
-ghost use Rattle.vlog_items.specs.Answers.{TextAnswers};
+ghost use Rattle.vlog_modules.specs.declared.error.TextError.{TextError};
+ghost use Rattle.vlog_modules.specs.Answers.{TextAnswers};
 ghost use Rattle.source_check.specs.declared.error.SourceError.{SourceError};
 ghost use Rattle.source_check.specs.declared.points.Front.{Front};
 ghost use Rattle.source_check.specs.Checking.{FrontAnswers};

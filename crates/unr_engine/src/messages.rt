@@ -2,7 +2,7 @@
 ghost use Rattle.std.specs.Prelude.{◌≡◌};
 ghost use Rattle.unr_io.specs.Sink.{Puts};
 ghost use Rattle.unr_engine.specs.Ends.{why_of};
-ghost use Rattle.unr_engine.specs.Messages.{memory_message, text_message, parse_message, cert_message, source_message, line_name, line_number, step_message, hit_message, ladder_message, check_message, refusal_message, why_message};
+ghost use Rattle.unr_engine.specs.Messages.{memory_message, place_message, lex_message, text_message, parse_message, cert_message, source_message, line_name, line_number, step_message, hit_message, ladder_message, check_message, refusal_message, why_message};
 
 use crate::pieces::{Piece, put_all};
 use crate::stop::{Refusal, Stop, ending_text};
@@ -11,13 +11,42 @@ use ladder_check::{LadderFault, Query, QueryFault};
 use lrat_check::LineFault;
 use source_check::{CheckError, SourceError};
 use unr_io::{Sink, SinkError};
-use vlog_items::{ParseError, TextError};
-use word_core::Name;
+use vlog_modules::{ParseError, TextError};
+use vlog_tokens::LexError;
+use word_core::{Name, Place};
 
 fn say_memory<E: Sink>(err: &mut E) -> Result<(), SinkError>
     ensures { Puts memory_message result (E.state err.old) (E.state err.new) }
 {
     err.put(b"unr: memory\n")
+}
+
+/// Says what is wrong at a place of the source.
+fn say_at<E: Sink>(err: &mut E, at: Place, rest: &[u8]) -> Result<(), SinkError>
+    ensures { Puts (place_message at rest.now) result (E.state err.old) (E.state err.new) }
+{
+    put_all(
+        err,
+        &[
+            Piece::Text(b"unr: source "),
+            Piece::Number(u64::from(at.line)),
+            Piece::Text(b":"),
+            Piece::Number(u64::from(at.col)),
+            Piece::Text(rest),
+        ],
+    )
+}
+
+fn say_lex_error<E: Sink>(err: &mut E, error: &LexError) -> Result<(), SinkError>
+    ensures { Puts (lex_message error.now) result (E.state err.old) (E.state err.new) }
+{
+    match error {
+        LexError::BadDirective { at } => say_at(err, *at, b" BadDirective\n"),
+        LexError::BadChar { at } => say_at(err, *at, b" BadChar\n"),
+        LexError::BadNumber { at } => say_at(err, *at, b" BadNumber\n"),
+        LexError::Unclosed { at } => say_at(err, *at, b" Unclosed\n"),
+        LexError::Memory => say_memory(err),
+    }
 }
 
 fn say_parse_error<E: Sink>(err: &mut E, error: &ParseError) -> Result<(), SinkError>
@@ -36,16 +65,8 @@ fn say_parse_error<E: Sink>(err: &mut E, error: &ParseError) -> Result<(), SinkE
                 Piece::Text(b"\n"),
             ],
         ),
-        ParseError::TooDeep { at } => put_all(
-            err,
-            &[
-                Piece::Text(b"unr: source "),
-                Piece::Number(u64::from(at.line)),
-                Piece::Text(b":"),
-                Piece::Number(u64::from(at.col)),
-                Piece::Text(b" TooDeep\n"),
-            ],
-        ),
+        ParseError::NotInProfile { at } => say_at(err, *at, b" NotInProfile\n"),
+        ParseError::TooDeep { at } => say_at(err, *at, b" TooDeep\n"),
         ParseError::Memory => say_memory(err),
     }
 }
@@ -62,6 +83,7 @@ fn say_text_error<E: Sink>(err: &mut E, error: &TextError) -> Result<(), SinkErr
                 Piece::Text(b"\n"),
             ],
         ),
+        TextError::Lex(error) => say_lex_error(err, error),
         TextError::Parse(error) => say_parse_error(err, error),
         TextError::Memory => say_memory(err),
     }
@@ -88,16 +110,7 @@ fn say_source_error<E: Sink>(err: &mut E, error: &SourceError) -> Result<(), Sin
 {
     match error {
         SourceError::Text(error) => say_text_error(err, error),
-        SourceError::NotBuilt { at } => put_all(
-            err,
-            &[
-                Piece::Text(b"unr: source "),
-                Piece::Number(u64::from(at.line)),
-                Piece::Text(b":"),
-                Piece::Number(u64::from(at.col)),
-                Piece::Text(b" NotBuilt\n"),
-            ],
-        ),
+        SourceError::NotBuilt { at } => say_at(err, *at, b" NotBuilt\n"),
         SourceError::CostOver { cost } => put_all(
             err,
             &[

@@ -1,12 +1,13 @@
 // Why a run does not do what its words say, and the status of that.
 ghost use Rattle.std.specs.Prelude.{◌≡◌};
-ghost use Rattle.unr_engine.specs.Statuses.{text_status, cert_status, source_status, check_status, refusal_status, why_status};
+ghost use Rattle.unr_engine.specs.Statuses.{lex_status, text_status, cert_status, source_status, check_status, refusal_status, why_status};
 ghost use Rattle.unr_engine.specs.Ends.{why_of, ending_text};
 
 use cert_text::CertError;
 use source_check::{CheckError, SourceError};
 use std::alloc::AllocError;
-use vlog_items::{ParseError, TextError};
+use vlog_modules::{ParseError, TextError};
+use vlog_tokens::LexError;
 
 /// Why the content of the files is refused.
 #[derive(Drop)]
@@ -109,12 +110,26 @@ impl<'a> From<CheckError> for Stop<'a> {
     }
 }
 
+fn lex_status(error: &LexError) -> u8
+    ensures { result ≡ lex_status error.now }
+{
+    match error {
+        LexError::BadDirective { .. } => 4,
+        LexError::BadChar { .. } => 4,
+        LexError::BadNumber { .. } => 4,
+        LexError::Unclosed { .. } => 4,
+        LexError::Memory => 7,
+    }
+}
+
 fn text_status(error: &TextError) -> u8
     ensures { result ≡ text_status error.now }
 {
     match error {
         TextError::TooLong { .. } => 4,
+        TextError::Lex(error) => lex_status(error),
         TextError::Parse(ParseError::Expected { .. }) => 4,
+        TextError::Parse(ParseError::NotInProfile { .. }) => 4,
         TextError::Parse(ParseError::TooDeep { .. }) => 4,
         TextError::Parse(ParseError::Memory) => 7,
         TextError::Memory => 7,

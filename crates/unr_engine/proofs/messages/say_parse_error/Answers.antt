@@ -3,6 +3,3 @@ use Rattle.unr_engine.proofs.messages.say_parse_error.Goals as goal
 pub returns-in-Expected : goal.returns-in-Expected
 returns-in-Expected g c =
     rw (c.in-Expected.is, ← c.from.ensures, ← c.from-in-Expected.ensures, ← c.bytes.ensures) c.put_all.ensures
-
-pub returns-in-TooDeep : goal.returns-in-TooDeep
-returns-in-TooDeep g c = rw (c.in-TooDeep.is, ← c.from-in-TooDeep.ensures, ← c.from-in-TooDeep-2.ensures) c.put_all-in-TooDeep.ensures

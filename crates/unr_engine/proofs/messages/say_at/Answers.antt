@@ -1,0 +1,4 @@
+use Rattle.unr_engine.proofs.messages.say_at.Goals as goal
+
+pub returns : goal.returns
+returns g c = rw (← c.from.ensures, ← c.from-2.ensures) c.put_all.ensures

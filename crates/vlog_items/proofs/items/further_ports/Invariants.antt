@@ -1,6 +1,0 @@
-use Rattle.std.proofs.Common.{◌≡◌, ◌-◌, length}
-use Rattle.vlog_items.specs.Reading.{more_ports}
-use Rattle.vlog_items.proofs.items.further_ports.Given as goal
-
-abbrev pub invariant-loop-turn : goal.invariant-loop-turn
-invariant-loop-turn l = more_ports (length l.fn.cursor) l.fn.found l.fn.cursor ≡ more_ports (l._turn-end - l._turn) l.found l.cursor
