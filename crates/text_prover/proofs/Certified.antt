@@ -106,6 +106,12 @@ order_none d (k ∷ ks) legal alone =
     alone.each k (All-head (λ j. j < length d.processes) k ks legal.named) (All-head (λ j. is_clocked (process_at d j).kind ≡ false) k ks legal.combinational) in
     absurd (omega (arith, there.1))
 
+-- a system has a point for each site that it is made of
+pub one_each : (legal : Ordered) (points : List Point) (sites : List ℕ) → sites ≡ sites_of points → (system : Machine) → system ≡ plain_of legal.design legal.order sites →
+    length points ≡ length system.hits
+one_each legal points sites of_points system exact =
+    sym (ap (λ (m : Machine). length m.hits) exact ∙ one_hit_each legal.design legal.order sites ∙ ap length of_points ∙ length-map points (λ (p : Point). site_of p.test))
+
 -- the front's points, their sites and the system that is made of them
 module _ (text : List ℕ) (setup : Setup) (plain : setup ≡ setup_of setup.top setup.clock) (legal : Ordered) (is_legal : IsLegal legal.design legal.order) (points : List Point)
     (tree : Tree) (of_text : TextAnswers text (Ok tree)) (is : IsElaborated tree setup legal.design) (listed : points ≡ points_of legal.design setup) where
@@ -120,10 +126,6 @@ module _ (text : List ℕ) (setup : Setup) (plain : setup ≡ setup_of setup.top
     its_system =
         exact ∙ ap (λ order. plain_of legal.design order sites) (order_none legal.design legal.order is_legal (text_design_is_legal tree setup legal.design is.design))
         ∙ ap (plain_of legal.design []) all_sites
-
-    pub one_each : length points ≡ length system.hits
-    one_each =
-        sym (ap (λ (m : Machine). length m.hits) exact ∙ one_hit_each legal.design legal.order sites ∙ ap length of_points ∙ length-map points (λ (p : Point). site_of p.test))
 
     module _ (bridge : Bridge legal.design sites system) (effort : ℕ) (small : effort < 2 ^ 63) (claims : List CertClaim) (used : List ℕ) (made : AreClaimsFor system effort points claims used) where
       its_bridge : Bridge legal.design (sites_of (points_of legal.design setup)) (system_of legal.design setup)

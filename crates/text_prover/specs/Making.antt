@@ -1,5 +1,14 @@
 -- What is made of a text before it is checked.
 use Rattle.std.specs.Prelude.{ℕ, ◌≡◌, List, map, Result, Ok, Err}
+use Rattle.design_core.specs.Ordered.{Ordered}
+use Rattle.bit_system.specs.Machine.{Machine}
+use Rattle.plain_blast.specs.Plain.{plain_of}
+use Rattle.plain_blast.specs.Bridge.{Bridge}
+use Rattle.cert_text.specs.declared.cert.CertClaim.{CertClaim}
+use Rattle.cert_text.specs.Written.{lined, FitsButLines, Reads}
+use Rattle.source_check.specs.declared.points.Point.{Point}
+use Rattle.source_check.specs.Points.{site_of}
+use Rattle.text_prover.specs.Claims.{AreClaimsFor}
 use Rattle.vlog_tree.specs.declared.Tree.{Tree}
 use Rattle.vlog_items.specs.Answers.{TextAnswers}
 use Rattle.design_core.specs.declared.setup.Setup.{Setup}
@@ -11,6 +20,20 @@ use Rattle.source_check.specs.Judging.{Judges, told}
 use Rattle.source_check.specs.Checking.{FrontAnswers}
 use Rattle.text_prover.specs.declared.making.Made.{Made}
 use Rattle.text_prover.specs.Proving.{setup_of, units_of}
+
+-- the claims are for these points of a legal design, by what was found out of the points of its system
+pub record AreClaimed (legal : Ordered) (points : List Point) (effort : ℕ) (claims : List CertClaim) (used : List ℕ) : Type 0 where
+  pub sites : List ℕ
+  pub of_points : sites ≡ map (λ (p : Point). site_of p.test) points
+  pub system : Machine
+  pub exact : system ≡ plain_of legal.design legal.order sites
+  pub bridge : Bridge legal.design sites system
+  pub claimed : AreClaimsFor system effort points claims used
+
+-- the bytes are read as the certificate of these claims, where it can be spelled, and the units are these
+pub record IsWritten (setup : Setup) (claims : List CertClaim) (used : List ℕ) (made : Made) : Type 0 where
+  pub readable : FitsButLines (record { setup = setup; claims = claims }) → Reads made.cert.items (lined (record { setup = setup; claims = claims }))
+  pub units : made.used ≡ used
 
 -- the bytes spell a certificate under these settings that is accepted for the text, and so many units were used for its claims
 pub record IsMade (text top clock : List ℕ) (effort : ℕ) (bytes used : List ℕ) : Type 0 where

@@ -1,22 +1,53 @@
 // The certificate of all points of a text.
 
-ghost use Rattle.std.specs.Prelude.{◌≡◌, ◌<◌, ◌≤◌, ◌^◌};
+ghost use Rattle.std.specs.Prelude.{◌≡◌, ◌<◌, ◌≤◌, ◌^◌, length, IfOk};
 ghost use Rattle.text_prover.specs.Proving.{setup_of};
-ghost use Rattle.text_prover.specs.Making.{MakeAnswers};
+ghost use Rattle.text_prover.specs.Making.{AreClaimed, IsWritten, MakeAnswers};
 
-use crate::claims::{claims, sites_of};
+use crate::claims::{Found, claims, sites_of};
 use cert_text::{Cert, write_cert};
+use design_core::legal::Legal;
 use design_core::setup::Setup;
 use plain_blast::translate;
-use source_check::{SourceError, front};
+use source_check::{Point, SourceError, front};
 use sqlite_items::Items;
-use std::alloc::Global;
+use std::alloc::{AllocError, Global};
 
 /// The text of a certificate, and the units that are told of each of its claims.
 #[derive(Drop)]
 pub struct Made {
     pub cert: Vec<u8>,
     pub used: Items<u64>,
+}
+
+/// Searches for each of the points of a legal design.
+fn claims_for(
+    alloc: Global,
+    legal: &Legal,
+    points: &[Point],
+    effort: u64,
+) -> Result<Found, AllocError>
+    requires few { length points.now ≤ 2 ^ 32 }
+    requires effort { 0 < effort }
+    ensures { IfOk result (λ found. AreClaimed legal.now points.now effort found.claims found.used) }
+{
+    let sites = sites_of(alloc, points)?;
+    let system = translate(alloc, legal, &sites)?;
+    claims(alloc, &system, points, effort)
+}
+
+/// Writes the certificate of these claims.
+fn written(alloc: Global, setup: Setup, found: Found) -> Result<Made, AllocError>
+    ensures { IfOk result (IsWritten setup found.claims found.used) }
+{
+    let cert = Cert {
+        setup,
+        claims: found.claims,
+    };
+    Ok(Made {
+        cert: write_cert(alloc, &cert)?,
+        used: found.used,
+    })
 }
 
 /// Searches for each point of a text's design, and writes what is found out.
@@ -30,15 +61,7 @@ pub fn make(alloc: Global, text: &[u8], setup: Setup, effort: u64) -> Result<Mad
     // Shows that the design is legal.
     let _design = front.legal.design();
     let points = front.points.as_slice();
-    let sites = sites_of(alloc, points)?;
-    let system = translate(alloc, &front.legal, &sites)?;
-    let made = claims(alloc, &system, points, effort)?;
-    let cert = Cert {
-        setup,
-        claims: made.claims,
-    };
-    Ok(Made {
-        cert: write_cert(alloc, &cert)?,
-        used: made.used,
-    })
+    let found = claims_for(alloc, &front.legal, points, effort)?;
+    let made = written(alloc, setup, found)?;
+    Ok(made)
 }
