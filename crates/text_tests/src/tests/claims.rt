@@ -50,7 +50,10 @@ fn checks(rt: HostRuntime) -> Result<(), Fail> {
 fn judges(rt: HostRuntime) -> Result<(), Fail> {
     let alloc = rt.alloc();
     let tree = parse(alloc, TEXT)?;
-    assert_eq!(rt; narrow(alloc, &tree)?.map_or(0, |small| small.modules.len()), 1);
+    assert_eq!(rt;
+        narrow(alloc, &tree)?.map_or(0, |small| small.modules.len()),
+        1
+    );
     let cert = read_cert(alloc, CERT)?;
     assert_eq!(rt; judge(alloc, &tree, &cert)?.len(), 1);
     let front = front(alloc, TEXT, &cert.setup)?;
