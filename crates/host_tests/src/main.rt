@@ -27,7 +27,7 @@ fn main(rt: HostRuntime) -> anyhow::Result<()> {
         Err(_) => false,
     };
     let front = match desk.load("one", 10) {
-        Ok(found) => found.as_slice() == &bytes.as_slice()[..10],
+        Ok(found) => found.as_slice() == [0u8, 1, 2, 3, 4, 5, 6, 7, 8, 9].as_slice(),
         Err(_) => false,
     };
     let other = match desk.load("two", 10) {
