@@ -9,6 +9,3 @@ mod rename;
 pub use back::{law_lemmas_are_same, law_walks_are_seen};
 pub use bit_system::Memory;
 pub use build::{Cone, cone_of};
-
-#[cfg(test)]
-mod tests;
