@@ -1,4 +1,6 @@
 //! Words of bits.
+ghost use Rattle.std.specs.Prelude.{◌≡◌};
+
 use std::process::Abort;
 use std::test::Fail;
 use word_core::Word;
