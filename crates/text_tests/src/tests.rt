@@ -3,5 +3,4 @@ mod certificates;
 mod claims;
 mod desks;
 mod names;
-mod numbers;
 mod trees;
