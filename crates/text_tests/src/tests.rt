@@ -3,4 +3,5 @@ mod certificates;
 mod claims;
 mod desks;
 mod names;
+mod numbers;
 mod trees;
