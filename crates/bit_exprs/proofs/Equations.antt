@@ -1,10 +1,10 @@
 -- The definitions at a variant whose parts are boxed or listed.
-use Rattle.std.proofs.Common.{◌≡◌, ℕ, ◌+◌, ◌*◌, ◌<◌, nat_eq, Bool, cond, ◌&&◌, List, [], ◌∷◌, length, map, refl, sym, ap, ◌∙◌, subst, Option}
+use Rattle.std.proofs.Common.{◌≡◌, ℕ, nat_eq, Bool, true, false, cond, ◌&&◌, ◌||◌, List, ◌∷◌, map, refl, ap, ◌∙◌, subst, Option}
 use Rattle.std.specs.Prelude.{All}
 use Rattle.std.proofs.lemmas.List.Elements.{All-nil, All-cons}
 use denote.Hole.Carrier.{hidden}
 use mathlib.Core.Former.{Count}
-use Rattle.word_core.specs.Words.{bit}
+use Rattle.word_core.specs.Words.{bit, any}
 use Rattle.bit_exprs.specs.declared.forms.Expr.{Expr, Select, Unary, Binary, Choose, Logical, Row_of-Expr, end_of-Expr, more_of-Expr, items-the_row-Expr, items_hidden-the_row-Expr-1}
 use Rattle.bit_exprs.specs.declared.forms.Expr.TheVariants.{Logical'}
 use Rattle.bit_exprs.specs.declared.forms.Expr.TheBlock.{hidden-the_row-Expr-0}
@@ -13,6 +13,7 @@ use Rattle.bit_exprs.specs.declared.forms.BinaryOp.{BinaryOp}
 use Rattle.bit_exprs.specs.declared.forms.Window.{Window}
 use Rattle.bit_exprs.specs.Operators.{unary_width, unary_sign, unary_value, binary_width, binary_sign, binary_value}
 use Rattle.bit_exprs.specs.Values.{bit_at, width_of, sign_of, value_of, values_of, selected, row_holds}
+use Rattle.bit_exprs.specs.Named.{among, reads, any_reads}
 use Rattle.bit_exprs.specs.Formed.{IsWidth, AreBits, Takes, TakesBoth, IsFormed, AreFormed}
 
 pub width-Select : (vector : List ℕ) (window : Window) (e : Expr) → width_of (Select vector window e) ≡ window.count
@@ -77,6 +78,26 @@ pub formed-Choose : (c e f : Expr) (n : ℕ) → IsFormed (Choose c e f) n → (
 unfolding hidden-the_row-Expr-0 hidden
 formed-Choose c e f n h = h
 
+or_none : (a : Bool) → a || false ≡ a
+or_none true = refl
+or_none false = refl
+
+pub reads-Select : (vector : List ℕ) (window : Window) (e : Expr) (b : ℕ) → reads (Select vector window e) b ≡ among vector b || reads e b
+unfolding hidden-the_row-Expr-0 hidden
+reads-Select vector window e b = ap (λ x. among vector b || x) (or_none (reads e b))
+
+pub reads-Unary : (op : UnaryOp) (e : Expr) (b : ℕ) → reads (Unary op e) b ≡ reads e b
+unfolding hidden-the_row-Expr-0 hidden
+reads-Unary op e b = or_none (reads e b)
+
+pub reads-Binary : (op : BinaryOp) (e f : Expr) (b : ℕ) → reads (Binary op e f) b ≡ reads e b || reads f b
+unfolding hidden-the_row-Expr-0 hidden
+reads-Binary op e f b = λ j. or_none (reads e b) j || or_none (reads f b) j
+
+pub reads-Choose : (c e f : Expr) (b : ℕ) → reads (Choose c e f) b ≡ reads c b || (reads e b || reads f b)
+unfolding hidden-the_row-Expr-0 hidden
+reads-Choose c e f b = λ j. or_none (reads c b) j || (or_none (reads e b) j || or_none (reads f b) j)
+
 -- ---- rows
 
 abbrev row_of : Expr → (n : Count) × Row_of-Expr n
@@ -103,3 +124,12 @@ pub formed-Logical : (and : Bool) (chain : Option ℕ) (all : List Expr) (k : �
 formed-Logical and chain all k h =
     let row = row_of (Logical and chain all) in
     subst (All (λ e. IsFormed e k)) (items_hidden-the_row-Expr-1 all) (formed_row row.0 row.1 k h)
+
+reads_row : (n : _) (row : Row_of-Expr n) (b : ℕ) → any_reads row b ≡ any (map (λ e. reads e b) (items-the_row-Expr n row))
+reads_row n end_of-Expr b = refl
+reads_row n (more_of-Expr e rest) b = ap (λ x. reads e b || x) (reads_row _ rest b)
+
+pub reads-Logical : (and : Bool) (chain : Option ℕ) (all : List Expr) (b : ℕ) → reads (Logical and chain all) b ≡ any (map (λ e. reads e b) all)
+reads-Logical and chain all b =
+    let row = row_of (Logical and chain all) in
+    reads_row row.0 row.1 b ∙ ap (λ es. any (map (λ e. reads e b) es)) (items_hidden-the_row-Expr-1 all)

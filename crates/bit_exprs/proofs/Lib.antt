@@ -1,5 +1,9 @@
 pub mod Equations
+pub mod Given
 pub mod IndexLaws
+pub mod Naming
+pub mod Performing
+pub mod Reading
 pub mod Rows
 pub mod Variants
 pub mod Widths

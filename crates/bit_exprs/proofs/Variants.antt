@@ -1,5 +1,5 @@
 -- Expressions, as the code goes over them.
-use Rattle.std.proofs.Common.{◌≡◌, ℕ, ◌+◌, ◌<◌, get_or, nat_eq, Bool, true, false, cond, ◌&&◌, List, map, length, refl, sym, ap, ◌∙◌, subst, Option, arith}
+use Rattle.std.proofs.Common.{◌≡◌, ℕ, ◌<◌, get_or, nat_eq, Bool, cond, ◌&&◌, List, map, length, sym, ap, ◌∙◌, subst, Option}
 use Rattle.std.specs.Prelude.{All}
 use Rattle.word_core.specs.Words.{bit}
 use Rattle.bit_exprs.specs.declared.forms.Expr.{Expr, Select, Unary, Binary, Choose, Logical}

@@ -1,11 +1,15 @@
 -- What an expression costs: a measure of the size of its circuit.
 use Rattle.std.specs.Prelude.{ℕ, zero, suc, ◌+◌, ◌-◌, ◌*◌, ◌^◌, min, nat_lt, if◌then◌else◌, length}
+use Rattle.std.specs.List.{sum_by}
 use Rattle.bit_exprs.specs.declared.forms.Expr.{Expr, Row_of-Expr, end_of-Expr, more_of-Expr}
 use Rattle.bit_exprs.specs.declared.forms.Expr.TheVariants.{Const, Read, Select', Unary', Binary', Choose', Logical'}
 use Rattle.bit_exprs.specs.declared.forms.UnaryOp.{UnaryOp}
 use Rattle.bit_exprs.specs.declared.forms.UnaryOp.TheVariants as one
 use Rattle.bit_exprs.specs.declared.forms.BinaryOp.{BinaryOp}
 use Rattle.bit_exprs.specs.declared.forms.BinaryOp.TheVariants.{Add, Sub, Mul, And, Or, Xor, Xnor, Equal, NotEqual, Less, LessEqual, Greater, GreaterEqual, Shl, Shr, Join}
+use Rattle.bit_exprs.specs.declared.forms.Part.{Part}
+use Rattle.bit_exprs.specs.declared.forms.Part.TheVariants as parts
+use Rattle.bit_exprs.specs.declared.forms.Target.{Target}
 use Rattle.bit_exprs.specs.Values.{width_of, operand_width}
 
 -- or the greatest number of 64 bits, where it is less
@@ -67,3 +71,12 @@ abbrev mutual
   pub tested_of : {m : _} → Row_of-Expr m → ℕ
   tested_of end_of-Expr = 0
   tested_of (more_of-Expr e rest) = cost_of e + (width_of e + 1) + tested_of rest
+
+-- a write with an index costs its index and, for each place selected and bit of the vector, the width of the index and 4
+abbrev pub part_cost : Part → ℕ
+part_cost (parts.Bits bits) = 0
+part_cost (parts.Select vector window index) = cost_of index + window.count * length vector * (width_of index + 4)
+part_cost (parts.Outside count) = 0
+
+abbrev pub target_cost : Target → ℕ
+target_cost t = sum_by part_cost t.parts

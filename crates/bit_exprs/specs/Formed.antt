@@ -6,7 +6,11 @@ use Rattle.bit_exprs.specs.declared.forms.UnaryOp.{UnaryOp}
 use Rattle.bit_exprs.specs.declared.forms.UnaryOp.TheVariants as one
 use Rattle.bit_exprs.specs.declared.forms.BinaryOp.{BinaryOp}
 use Rattle.bit_exprs.specs.declared.forms.BinaryOp.TheVariants.{Add, Sub, Mul, And, Or, Xor, Xnor, Equal, NotEqual, Less, LessEqual, Greater, GreaterEqual, Shl, Shr, Join}
-use Rattle.bit_exprs.specs.Values.{width_of, operand_width}
+use Rattle.bit_exprs.specs.declared.forms.Part.{Part}
+use Rattle.bit_exprs.specs.declared.forms.Part.TheVariants as parts
+use Rattle.bit_exprs.specs.declared.forms.Target.{Target}
+use Rattle.bit_exprs.specs.Values.{operand_width}
+use Rattle.bit_exprs.specs.Updates.{target_width}
 
 -- from 1 to 128
 abbrev pub IsWidth : ℕ → Type 0
@@ -64,3 +68,14 @@ abbrev mutual
   pub AreFormed : {m : _} → Row_of-Expr m → ℕ → Type 0
   AreFormed end_of-Expr n = Unit {0}
   AreFormed (more_of-Expr e rest) n = IsFormed e n × AreFormed rest n
+
+-- ---- targets
+
+abbrev pub PartFormed : Part → ℕ → Type 0
+PartFormed (parts.Bits bits) n = AreBits n bits
+PartFormed (parts.Select vector window index) n = AreBits n vector × IsWidth window.count × IsFormed index n
+PartFormed (parts.Outside count) n = IsWidth count
+
+-- over the bits below n, at most 128 places in all
+abbrev pub TargetFormed : Target → ℕ → Type 0
+TargetFormed t n = All (λ p. PartFormed p n) t.parts × (target_width t ≤ 128)

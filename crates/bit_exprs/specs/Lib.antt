@@ -4,3 +4,4 @@ pub mod Indices
 pub mod Formed
 pub mod Cost
 pub mod Updates
+pub mod Named

@@ -1,5 +1,5 @@
 -- The operators: how wide their words are, their signs, and what they compute (IEEE 1364-2001 clauses 4.1 to 4.5).
-use Rattle.std.specs.Prelude.{ℕ, zero, suc, ◌+◌, ◌*◌, Bool, true, false, not, ◌&&◌}
+use Rattle.std.specs.Prelude.{ℕ, zero, suc, ◌+◌, ◌*◌, Bool, false, not, ◌&&◌}
 use Rattle.word_core.specs.Words.{bit, bits_of, all, any, odd, word_not, word_neg, word_add, word_sub, word_mul, word_and, word_or, word_xor, word_xnor, word_shl, word_shr, word_equal, word_less, word_extend, word_join}
 use Rattle.bit_exprs.specs.declared.forms.UnaryOp.{UnaryOp}
 use Rattle.bit_exprs.specs.declared.forms.UnaryOp.TheVariants.{Not, Neg, Extend, Repeat, All, NotAll, Any, NotAny, Odd, NotOdd}

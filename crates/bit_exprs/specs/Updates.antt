@@ -1,11 +1,11 @@
 -- What an assignment writes (IEEE 1364-2001 clauses 9.2 and 4.2.1).
-use Rattle.std.specs.Prelude.{ℕ, zero, suc, ◌+◌, ◌^◌, ◌/◌, ◌%◌, ◌==◌, Bool, cond, List, [], ◌∷◌, ◌++◌, length, flat_map}
+use Rattle.std.specs.Prelude.{ℕ, suc, ◌+◌, ◌^◌, ◌/◌, Bool, cond, List, [], ◌∷◌, ◌++◌, length, slice_set}
 use Rattle.bit_exprs.specs.declared.forms.Part.{Part}
 use Rattle.bit_exprs.specs.declared.forms.Part.TheVariants.{Bits, Select, Outside}
 use Rattle.bit_exprs.specs.declared.forms.Target.{Target}
 use Rattle.bit_exprs.specs.declared.forms.Window.{Window}
-use Rattle.word_core.specs.Words.{bits_of, word_part}
-use Rattle.bit_exprs.specs.Values.{width_of, sign_of, value_of, index_of, is_index, listed}
+use Rattle.word_core.specs.Words.{bits_of}
+use Rattle.bit_exprs.specs.Values.{width_of, sign_of, value_of, index_of, is_index}
 
 -- how many bits of the value a part takes
 abbrev pub part_width : Part → ℕ
@@ -51,3 +51,8 @@ parts_updates (p ∷ ps) a v = part_updates p (bits_of (part_width p) (a / 2 ^ p
 -- what is written, in order, of the value a; a wider value is cut to the target, and a narrower one goes on with zeros
 abbrev pub updates_of : Target → ℕ → List Bool → List (ℕ × Bool)
 updates_of t a v = parts_updates t.parts a v
+
+-- the values after the updates, performed in order
+abbrev pub perform : List (ℕ × Bool) → List Bool → List Bool
+perform [] v = v
+perform (u ∷ us) v = perform us (slice_set v u.0 u.1)

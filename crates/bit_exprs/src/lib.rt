@@ -3,4 +3,5 @@
 
 pub mod forms;
 pub mod indices;
+pub mod names;
 pub mod signs;

@@ -1,1 +1,4 @@
+pub mod Listing
+pub mod Copies
 pub mod Loops
+pub mod Writing

@@ -11,8 +11,8 @@ use bit_exprs::forms::{Bit, Window};
 use bit_exprs::indices::{code, index_at};
 use word_core::Word;
 
-// Whether the index is the one at which bit `k` of what is selected stands at place `p`.
-fn names(window: Window, at: Word, signed: bool, k: u8, p: u64) -> bool
+/// Whether the index is the one at which bit `k` of what is selected stands at place `p`. It takes no memory.
+pub fn names(window: Window, at: Word, signed: bool, k: u8, p: u64) -> bool
     requires some { 1 ≤ window.count }
     requires place { p < 2 ^ 63 }
     ensures { result ≡ names_place window at.width signed at.bits k p }

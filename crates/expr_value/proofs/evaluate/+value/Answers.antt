@@ -1,5 +1,4 @@
-use Rattle.std.proofs.Common.{◌≡◌, ◌&&◌, nat_eq, rules, ap, sym, ◌∙◌, map, length, subst, refl}
-use Rattle.word_core.specs.Words.{bit}
+use Rattle.std.proofs.Common.{rules, ap, sym, ◌∙◌, map, length, subst}
 use Rattle.bit_exprs.specs.declared.forms.Expr.{Expr}
 use Rattle.bit_exprs.specs.declared.forms.Expr.TheFolds as folds
 use Rattle.bit_exprs.specs.Values.{bit_at, width_of, sign_of, value_of, selected, row_holds}

@@ -1,4 +1,4 @@
-use Rattle.std.proofs.Common.{Some, None, ◌∙◌, sym}
+use Rattle.std.proofs.Common.{Some, None}
 use Rattle.bit_exprs.proofs.IndexLaws.{names_by}
 use Rattle.expr_value.proofs.selects.names.Goals as goal
 
