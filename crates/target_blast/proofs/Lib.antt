@@ -1,0 +1,4 @@
+pub mod Digits
+pub mod Others
+pub mod Steps
+pub mod WriteLaws
