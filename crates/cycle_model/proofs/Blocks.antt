@@ -1,13 +1,15 @@
 -- What is left of a block to execute.
-use Rattle.std.proofs.Common.{◌≡◌, ℕ, Bool, true, false, cond, List, [], ◌∷◌, ◌++◌, refl, sym, ap, ◌∙◌, subst, get_or, drop, length, ◌<◌, ◌≤◌, ◌+◌}
+use Rattle.std.proofs.Common.{◌≡◌, ℕ, Bool, true, false, not, cond, nat_eq, List, [], ◌∷◌, ◌++◌, refl, sym, ap, ◌∙◌, subst, get_or, drop, length, ◌<◌, ◌≤◌, ◌+◌}
 use Rattle.std.proofs.lemmas.List.{at_drop_more, drop_all}
-use Rattle.word_core.specs.Words.{any}
-use Rattle.design_core.specs.declared.flat.Expr.{Expr}
+use Rattle.bit_exprs.specs.declared.forms.Expr.{Expr}
 use Rattle.design_core.specs.declared.flat.Stmt.{Stmt, Block, Branch}
-use Rattle.design_core.specs.Exec.{Effect, expr_value, past, perform, exec, exec_each}
-use Rattle.design_core.specs.Bounds.{ReadsBelow, IsWithin}
+use Rattle.bit_exprs.specs.Updates.{perform}
+use Rattle.bit_exprs.specs.Values.{value_of}
+use Rattle.design_core.specs.Exec.{Effect, past, exec, exec_each}
+use Rattle.bit_exprs.specs.Formed.{IsFormed}
+use Rattle.design_core.specs.Bounds.{IsWithin}
 use Rattle.design_core.proofs.Equations.{exec-Block, within-Block, exec-Branch, within-Branch}
-use Rattle.design_core.proofs.Updates.{perform-append}
+use Rattle.bit_exprs.proofs.Performing.{perform-append}
 use Rattle.cycle_model.specs.Flags.{flagged}
 
 -- what executing leaves: the values, those to come, and the flags
@@ -41,6 +43,10 @@ pub after_each_more : (ss : List Stmt) (i : ℕ) (d : Stmt) (h : Held) → i < l
     after_each (drop i ss) h ≡ after_each (drop (i + 1) ss) (after (get_or ss i d) h)
 after_each_more ss i d h lt = at_drop_more (λ r. after_each r h) ss i d lt ∙ after_each-cons (get_or ss i d) (drop (i + 1) ss) h
 
+turned : (b : Bool) (x y : Effect) → cond b y x ≡ cond (not b) x y
+turned true x y = refl
+turned false x y = refl
+
 -- what a block may name, each of its statements may
 pub within_item : (body : Stmt) (all items : List Stmt) (s : Stmt) (i bits sites bits' sites' : ℕ) →
     IsWithin body bits sites → body ≡ Block all → items ≡ all → s ≡ get_or items i s → i < length items →
@@ -69,14 +75,17 @@ block_done body all items i h h0 is listed past_end so_far =
 -- ---- a branch
 
 module _ (body : Stmt) (site : ℕ) (test : Expr) (x y : Stmt) (is : body ≡ Branch site test x y) where
-  pub branch_within : (bits sites : ℕ) → IsWithin body bits sites → (site + 1 < sites) × ReadsBelow test bits × IsWithin x bits sites × IsWithin y bits sites
+  pub branch_within : (bits sites : ℕ) → IsWithin body bits sites → (site + 1 < sites) × IsFormed test bits × IsWithin x bits sites × IsWithin y bits sites
   branch_within bits sites h = within-Branch site test x y bits sites (subst (λ b. IsWithin b bits sites) is h)
 
-  effect : (v : List Bool) → exec body v ≡ cond (any (expr_value test v)) (past (site ∷ []) (exec x v)) (past ((site + 1) ∷ []) (exec y v))
+  effect : (v : List Bool) → exec body v ≡ cond (nat_eq (value_of test v) 0) (past ((site + 1) ∷ []) (exec y v)) (past (site ∷ []) (exec x v))
   effect v = ap (λ b. exec b v) is ∙ exec-Branch site test x y v
 
-  pub branch_then : (v : List Bool) (c : Bool) → c ≡ true → c ≡ any (expr_value test v) → exec body v ≡ past (site ∷ []) (exec x v)
-  branch_then v c on e = effect v ∙ ap (λ t. cond t (past (site ∷ []) (exec x v)) (past ((site + 1) ∷ []) (exec y v))) (sym e ∙ on)
+  arm : (v : List Bool) (c : Bool) → c ≡ not (nat_eq (value_of test v) 0) → exec body v ≡ cond c (past (site ∷ []) (exec x v)) (past ((site + 1) ∷ []) (exec y v))
+  arm v c e = effect v ∙ turned (nat_eq (value_of test v) 0) _ _ ∙ ap (λ t. cond t (past (site ∷ []) (exec x v)) (past ((site + 1) ∷ []) (exec y v))) (sym e)
 
-  pub branch_else : (v : List Bool) (c : Bool) → c ≡ false → c ≡ any (expr_value test v) → exec body v ≡ past ((site + 1) ∷ []) (exec y v)
-  branch_else v c off e = effect v ∙ ap (λ t. cond t (past (site ∷ []) (exec x v)) (past ((site + 1) ∷ []) (exec y v))) (sym e ∙ off)
+  pub branch_then : (v : List Bool) (c : Bool) → c ≡ true → c ≡ not (nat_eq (value_of test v) 0) → exec body v ≡ past (site ∷ []) (exec x v)
+  branch_then v c on e = arm v c e ∙ ap (λ t. cond t (past (site ∷ []) (exec x v)) (past ((site + 1) ∷ []) (exec y v))) on
+
+  pub branch_else : (v : List Bool) (c : Bool) → c ≡ false → c ≡ not (nat_eq (value_of test v) 0) → exec body v ≡ past ((site + 1) ∷ []) (exec y v)
+  branch_else v c off e = arm v c e ∙ ap (λ t. cond t (past (site ∷ []) (exec x v)) (past ((site + 1) ∷ []) (exec y v))) off

@@ -1,5 +1,3 @@
-pub mod Values
-pub mod Writing
 pub mod Blocks
 pub mod Steps
 pub mod Sites

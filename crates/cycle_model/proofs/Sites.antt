@@ -7,7 +7,8 @@ use Rattle.std.proofs.lemmas.Bool.{cases_eq}
 use Rattle.design_core.specs.declared.flat.Stmt.{Stmt}
 use Rattle.design_core.specs.declared.flat.Process.{Process}
 use Rattle.design_core.specs.declared.flat.Design.{Design}
-use Rattle.design_core.specs.Exec.{bit_at, exec, exec_each}
+use Rattle.bit_exprs.specs.Values.{bit_at}
+use Rattle.design_core.specs.Exec.{exec, exec_each}
 use Rattle.design_core.specs.Settled.{is_clocked, Hit}
 use Rattle.design_core.specs.Legality.{is_given, bodies, IsLegal}
 use Rattle.design_core.proofs.Truth.{either_way}

@@ -8,12 +8,13 @@ use Rattle.design_core.specs.declared.flat.ProcKind.{ProcKind}
 use Rattle.design_core.specs.declared.flat.ProcKind.TheVariants.{Comb, Clocked}
 use Rattle.design_core.specs.declared.flat.Reset.{Reset}
 use Rattle.design_core.specs.declared.flat.Design.{Design}
-use Rattle.design_core.specs.Exec.{perform, exec}
+use Rattle.bit_exprs.specs.Updates.{perform}
+use Rattle.design_core.specs.Exec.{exec}
 use Rattle.design_core.specs.Bounds.{AssignsBy}
 use Rattle.design_core.specs.Settled.{is_clocked, reset_of, updates_where}
 use Rattle.design_core.specs.Legality.{idle, process_at, bodies, IsLegal}
 use Rattle.design_core.proofs.Effects.{waits}
-use Rattle.design_core.proofs.Updates.{perform-append}
+use Rattle.bit_exprs.proofs.Performing.{perform-append}
 use Rattle.design_core.proofs.ResetLaws.{all_in}
 use Rattle.cycle_model.specs.declared.phases.Trigger.{Trigger}
 use Rattle.cycle_model.specs.declared.phases.Trigger.TheVariants.{Resets, ClockEdge}

@@ -4,7 +4,8 @@ use Rattle.std.specs.Prelude.{All}
 use Rattle.std.proofs.lemmas.List.{drop_all, take_all, append-nil}
 use Rattle.std.proofs.lemmas.List.Elements.{All-head, All-tail}
 use Rattle.design_core.specs.declared.flat.Design.{Design}
-use Rattle.design_core.specs.Exec.{bit_at, perform}
+use Rattle.bit_exprs.specs.Updates.{perform}
+use Rattle.bit_exprs.specs.Values.{bit_at}
 use Rattle.design_core.specs.Settled.{updated, clocked_updates, next_of}
 use Rattle.design_core.proofs.Updates.{bit_performed}
 use Rattle.cycle_model.specs.Machine.{held_in}

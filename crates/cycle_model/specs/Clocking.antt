@@ -2,7 +2,8 @@
 use Rattle.std.specs.Prelude.{ℕ, ◌≡◌, ◌<◌, ◌↔◌, Bool, true, cond, List, [], length, flat_map, All, IfSome}
 use Rattle.design_core.specs.declared.flat.Process.{Process}
 use Rattle.design_core.specs.declared.flat.Design.{Design}
-use Rattle.design_core.specs.Exec.{bit_at, exec}
+use Rattle.bit_exprs.specs.Values.{bit_at}
+use Rattle.design_core.specs.Exec.{exec}
 use Rattle.design_core.specs.declared.flat.ProcKind.{ProcKind}
 use Rattle.design_core.specs.Bounds.{IsWithin, AssignsBy}
 use Rattle.design_core.specs.Settled.{is_clocked, reset_of, is_active, Hit}

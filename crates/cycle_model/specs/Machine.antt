@@ -2,7 +2,7 @@
 use Rattle.std.specs.Prelude.{◌≡◌, Bool, List, length, map, refl}
 use Rattle.std.specs.Coded.{Coded, code_by, coded×, coded_list, coded_bool}
 use Rattle.design_core.specs.declared.flat.Design.{Design}
-use Rattle.design_core.specs.Exec.{bit_at}
+use Rattle.bit_exprs.specs.Values.{bit_at}
 use Rattle.design_core.specs.Ordered.{Ordered, ordered_code}
 
 -- its legal design, the values of the last cycle, what the registers hold for the next one, and a flag for each site, up where the last cycle hit it

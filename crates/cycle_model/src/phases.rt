@@ -1,7 +1,9 @@
 // The phases of a cycle.
 
 ghost use Rattle.std.specs.Prelude.{◌≡◌, ◌<◌, length, All, zip, IfSome, ℕ, false};
-ghost use Rattle.design_core.specs.Exec.{bit_at, perform, exec_each};
+ghost use Rattle.bit_exprs.specs.Updates.{perform};
+ghost use Rattle.bit_exprs.specs.Values.{bit_at};
+ghost use Rattle.design_core.specs.Exec.{exec_each};
 ghost use Rattle.design_core.specs.Bounds.{IsWithin};
 ghost use Rattle.design_core.specs.Settled.{reset_of, updates_where, next_of};
 ghost use Rattle.design_core.specs.Alike.{SettlesAt};
@@ -11,7 +13,8 @@ ghost use Rattle.cycle_model.specs.Clocking.{CanRun, is_triggered, runs, marks_w
 ghost use Rattle.cycle_model.specs.Machine.{held_in};
 
 use crate::execute::execute;
-use design_core::flat::{Bit, Design, ProcKind};
+use bit_exprs::forms::Bit;
+use design_core::flat::{Design, ProcKind};
 
 /// What runs clocked processes: their resets while these are active, or the clock's edge.
 #[derive(Clone, Copy)]

@@ -7,7 +7,8 @@ ghost use Rattle.design_core.specs.Verdicts.{Passes, HitAt};
 ghost use Rattle.cycle_model.specs.Replay.{FirstHit};
 
 use crate::sim::Sim;
-use design_core::flat::{Bit, BitInfo, Design};
+use bit_exprs::forms::Bit;
+use design_core::flat::{BitInfo, Design};
 use design_core::legal::Legal;
 use design_core::setup::{Setup, Stimulus};
 use sqlite_items::{Items, at};

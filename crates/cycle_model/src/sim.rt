@@ -1,14 +1,14 @@
 // A simulator of a legal design.
 
 ghost use Rattle.std.specs.Prelude.{◌≡◌, ◌<◌, length, IfOk};
-ghost use Rattle.design_core.specs.Exec.{bit_at};
+ghost use Rattle.bit_exprs.specs.Values.{bit_at};
 ghost use Rattle.design_core.specs.Settled.{next_of};
 ghost use Rattle.design_core.specs.Alike.{SettlesAt};
 ghost use Rattle.cycle_model.specs.Clocking.{IsMarked};
 ghost use Rattle.cycle_model.specs.Machine.{held_in};
 
 use crate::phases::{advance, put_inputs};
-use design_core::flat::Bit;
+use bit_exprs::forms::Bit;
 use design_core::legal::Legal;
 use std::alloc::{AllocError, Global};
 use std::marker::Model;

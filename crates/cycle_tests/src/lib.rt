@@ -3,4 +3,6 @@
 #![tactic(auto)]
 
 #[cfg(test)]
+mod counter;
+#[cfg(test)]
 mod tests;

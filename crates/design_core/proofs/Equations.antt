@@ -1,46 +1,20 @@
 -- The definitions at a variant whose parts are boxed or listed.
-use Rattle.std.proofs.Common.{◌≡◌, ℕ, ◌+◌, ◌<◌, min, Bool, cond, List, [], ◌∷◌, ◌++◌, refl, ap, map, ◌∙◌, subst}
+use Rattle.std.proofs.Common.{◌≡◌, ℕ, ◌+◌, ◌<◌, nat_eq, Bool, cond, List, [], ◌∷◌, ◌++◌, refl, ap, ◌∙◌, subst}
 use Rattle.std.specs.Prelude.{All}
 use Rattle.std.proofs.lemmas.List.{append-nil}
 use Rattle.std.proofs.lemmas.List.Elements.{All-nil, All-cons}
-use Rattle.word_core.specs.Words.{each_bit, any}
 use denote.Hole.Carrier.{hidden}
-use Rattle.design_core.specs.declared.flat.Expr.{Expr, Unary, Binary}
-use Rattle.design_core.specs.declared.flat.Expr.TheBlock.{hidden-the_row-Expr-0}
-use Rattle.design_core.specs.declared.flat.UnaryOp.{UnaryOp}
-use Rattle.design_core.specs.declared.flat.BinaryOp.{BinaryOp}
+use Rattle.bit_exprs.specs.declared.forms.Expr.{Expr}
+use Rattle.bit_exprs.specs.Values.{value_of}
+use Rattle.bit_exprs.specs.Formed.{IsFormed}
 use Rattle.design_core.specs.declared.flat.Stmt.{Stmt, Branch, Block, Row_of-Stmt, end_of-Stmt, more_of-Stmt, items-the_row-Stmt, items_hidden-the_row-Stmt-1}
 use Rattle.design_core.specs.declared.flat.Stmt.TheVariants.{Block'}
 use mathlib.Core.Former.{Count}
 use Rattle.design_core.specs.declared.flat.Stmt.TheBlock.{hidden-the_row-Stmt-0}
-use Rattle.design_core.specs.Exec.{Effect, unary_bit, binary_bit, expr_value, width_of, past, joined, exec, exec_all, exec_each}
-use Rattle.design_core.specs.Bounds.{ReadsBelow, IsWithin, AreWithin}
+use Rattle.design_core.specs.Exec.{Effect, past, joined, exec, exec_all, exec_each}
+use Rattle.design_core.specs.Bounds.{IsWithin, AreWithin}
 
-pub value-Unary : (op : UnaryOp) (e : Expr) (v : List Bool) → expr_value (Unary op e) v ≡ map (unary_bit op) (expr_value e v)
-unfolding hidden-the_row-Expr-0 hidden
-value-Unary op e v = refl
-
-pub value-Binary : (op : BinaryOp) (e f : Expr) (v : List Bool) → expr_value (Binary op e f) v ≡ each_bit (binary_bit op) (expr_value e v) (expr_value f v)
-unfolding hidden-the_row-Expr-0 hidden
-value-Binary op e f v = refl
-
-pub width-Unary : (op : UnaryOp) (e : Expr) → width_of (Unary op e) ≡ width_of e
-unfolding hidden-the_row-Expr-0 hidden
-width-Unary op e = refl
-
-pub width-Binary : (op : BinaryOp) (e f : Expr) → width_of (Binary op e f) ≡ min (width_of e) (width_of f)
-unfolding hidden-the_row-Expr-0 hidden
-width-Binary op e f = refl
-
-pub below-Unary : (op : UnaryOp) (e : Expr) (n : ℕ) → ReadsBelow (Unary op e) n → ReadsBelow e n
-unfolding hidden-the_row-Expr-0 hidden
-below-Unary op e n h = h
-
-pub below-Binary : (op : BinaryOp) (e f : Expr) (n : ℕ) → ReadsBelow (Binary op e f) n → (width_of f ≡ width_of e) × ReadsBelow e n × ReadsBelow f n
-unfolding hidden-the_row-Expr-0 hidden
-below-Binary op e f n h = h
-
-pub within-Branch : (site : ℕ) (test : Expr) (x y : Stmt) (n m : ℕ) → IsWithin (Branch site test x y) n m → (site + 1 < m) × ReadsBelow test n × IsWithin x n m × IsWithin y n m
+pub within-Branch : (site : ℕ) (test : Expr) (x y : Stmt) (n m : ℕ) → IsWithin (Branch site test x y) n m → (site + 1 < m) × IsFormed test n × IsWithin x n m × IsWithin y n m
 unfolding hidden-the_row-Stmt-0 hidden
 within-Branch site test x y n m h = (h.0, h.1, h.2.0, h.3.0)
 
@@ -48,10 +22,10 @@ past_joined : (sites : List ℕ) (e : Effect) → past sites (joined e (record {
 past_joined sites e = λ j. record { values = e.values; updates = append-nil e.updates j; marks = sites ++ append-nil e.marks j }
 
 pub exec-Branch : (site : ℕ) (test : Expr) (x y : Stmt) (v : List Bool) →
-    exec (Branch site test x y) v ≡ cond (any (expr_value test v)) (past (site ∷ []) (exec x v)) (past ((site + 1) ∷ []) (exec y v))
+    exec (Branch site test x y) v ≡ cond (nat_eq (value_of test v) 0) (past ((site + 1) ∷ []) (exec y v)) (past (site ∷ []) (exec x v))
 unfolding hidden-the_row-Stmt-0 hidden
 exec-Branch site test x y v =
-    λ j. cond (any (expr_value test v)) (past_joined (site ∷ []) (exec x v) j) (past_joined ((site + 1) ∷ []) (exec y v) j)
+    λ j. cond (nat_eq (value_of test v) 0) (past_joined ((site + 1) ∷ []) (exec y v) j) (past_joined (site ∷ []) (exec x v) j)
 
 exec_row : (n : _) (row : Row_of-Stmt n) (v : List Bool) → exec_all row v ≡ exec_each (items-the_row-Stmt n row) v
 exec_row n end_of-Stmt v = refl

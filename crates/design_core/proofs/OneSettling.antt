@@ -1,15 +1,18 @@
 -- Settled values are one: all of them have the same known bits, next registers and hits.
 use Rattle.std.proofs.Common.{◌≡◌, ℕ, zero, suc, Bool, true, cond, List, [], ◌∷◌, refl, sym, ap, map, ◌∙◌, subst, length, inl, inr, Some}
 use Rattle.std.specs.Prelude.{Contains, slice_get}
+use Rattle.bit_exprs.specs.Values.{bit_at}
+use Rattle.bit_exprs.specs.Named.{among}
+use Rattle.bit_exprs.proofs.Reading.{Agree}
 use Rattle.design_core.specs.declared.flat.Process.{Process}
 use Rattle.design_core.specs.declared.flat.Design.{Design}
-use Rattle.design_core.specs.Exec.{bit_at, exec}
-use Rattle.design_core.specs.Drive.{among, needs}
+use Rattle.design_core.specs.Exec.{exec}
+use Rattle.design_core.specs.Drive.{needs}
 use Rattle.design_core.specs.Settled.{is_clocked, updated, clocked_updates, Settled, Hit}
 use Rattle.design_core.specs.Alike.{Alike, SettlesAt}
 use Rattle.design_core.specs.Legality.{is_given, is_known, bodies, IsLegal}
 use Rattle.design_core.proofs.Truth.{or_right, or_cases}
-use Rattle.design_core.proofs.Effects.{Agree, Same, same_effect}
+use Rattle.design_core.proofs.Effects.{Same, same_effect}
 use Rattle.design_core.proofs.ResetLaws.{reset_updates_same, flat_map_same, all_in}
 use Rattle.design_core.proofs.Settling.{is_settled, done, settled_once, to_bodies, among_some, some_among, Contains-some, some-Contains}
 

@@ -3,12 +3,13 @@ use Rattle.std.proofs.Common.{◌≡◌, ℕ, Bool, false, List, [], ◌∷◌, 
 use Rattle.std.specs.Prelude.{All, zip}
 use Rattle.std.proofs.lemmas.List.{length-map, length-replicate}
 use Rattle.std.proofs.lemmas.List.Elements.{All-head, All-tail}
+use Rattle.bit_exprs.specs.Values.{bit_at}
+use Rattle.bit_exprs.specs.Updates.{perform}
+use Rattle.bit_exprs.proofs.Performing.{length-perform}
 use Rattle.design_core.specs.declared.flat.Design.{Design}
-use Rattle.design_core.specs.Exec.{bit_at, perform}
 use Rattle.design_core.specs.Settled.{Settled, next_of, updated, clocked_updates}
 use Rattle.design_core.specs.Legality.{IsLegal}
 use Rattle.design_core.specs.Runs.{IsRun}
-use Rattle.design_core.proofs.Effects.{length-perform}
 use Rattle.design_core.proofs.Settling.{registers_put, is_settled, done}
 
 module _ (d : Design) (order : List ℕ) (legal : IsLegal d order) where

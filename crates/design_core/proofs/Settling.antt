@@ -5,15 +5,20 @@ use Rattle.std.proofs.lemmas.List.{ext_get_or, get_or-set_same, get_or-set_other
 use Rattle.std.proofs.lemmas.List.Elements.{All-nil, All-cons, All-head, All-tail}
 use Rattle.std.proofs.lemmas.Option.{slice_get_within, slice_get-get_or, get_or_from_slice_get}
 use Rattle.std.proofs.lemmas.Bool.{eq-eqb, eqb-true}
+use Rattle.bit_exprs.specs.Values.{bit_at}
+use Rattle.bit_exprs.specs.Updates.{perform}
+use Rattle.bit_exprs.specs.Named.{among}
+use Rattle.bit_exprs.proofs.Reading.{Agree}
+use Rattle.bit_exprs.proofs.Performing.{length-perform}
 use Rattle.design_core.specs.declared.flat.Stmt.{Stmt}
 use Rattle.design_core.specs.declared.flat.Process.{Process}
 use Rattle.design_core.specs.declared.flat.Design.{Design}
-use Rattle.design_core.specs.Exec.{Effect, bit_at, perform, exec, exec_each}
-use Rattle.design_core.specs.Drive.{among, drives, always}
+use Rattle.design_core.specs.Exec.{Effect, exec, exec_each}
+use Rattle.design_core.specs.Drive.{drives, always}
 use Rattle.design_core.specs.Settled.{is_clocked, updated, reset_updates, Settled}
 use Rattle.design_core.specs.Legality.{Placed, Distinct, is_given, known_after, process_at, bodies, IsLegal}
 use Rattle.design_core.proofs.Truth.{or_left, or_right, or_cases, either_way}
-use Rattle.design_core.proofs.Effects.{Agree, same_length, same_length_each, length-perform, untouched, same_effect}
+use Rattle.design_core.proofs.Effects.{same_length, same_length_each, untouched, same_effect}
 use Rattle.design_core.proofs.Updates.{bit_performed}
 use Rattle.design_core.proofs.ResetLaws.{reset_updates_same}
 

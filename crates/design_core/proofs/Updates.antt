@@ -1,13 +1,10 @@
 -- Updates, bit by bit.
-use Rattle.std.proofs.Common.{◌≡◌, ℕ, Bool, false, cond, ◌==◌, List, [], ◌∷◌, ◌++◌, refl, sym, ap, ◌∙◌, subst, set, length, ◌<◌, inl, inr}
+use Rattle.std.proofs.Common.{◌≡◌, ℕ, Bool, false, cond, ◌==◌, List, [], ◌∷◌, refl, sym, ap, ◌∙◌, subst, set, length, ◌<◌, inl, inr}
 use Rattle.std.proofs.lemmas.List.{get_or-set_same, get_or-set_other, length-set}
 use Rattle.std.proofs.lemmas.Bool.{cases_eq, eq-eqb, ne_eqb}
-use Rattle.design_core.specs.Exec.{bit_at, perform}
+use Rattle.bit_exprs.specs.Values.{bit_at}
+use Rattle.bit_exprs.specs.Updates.{perform}
 use Rattle.design_core.specs.Settled.{updated}
-
-pub perform-append : (a b : List (ℕ × Bool)) (v : List Bool) → perform (a ++ b) v ≡ perform b (perform a v)
-perform-append [] b v = refl
-perform-append (u ∷ us) b v = perform-append us b _
 
 -- a bit of the values after the updates
 pub bit_performed : (us : List (ℕ × Bool)) (v : List Bool) (b : ℕ) → b < length v → bit_at (perform us v) b ≡ updated us b (bit_at v b)

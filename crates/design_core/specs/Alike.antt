@@ -1,7 +1,7 @@
 -- What the settled values of one cycle share.
 use Rattle.std.specs.Prelude.{ℕ, ◌≡◌, ◌↔◌, Bool, true, List}
 use Rattle.design_core.specs.declared.flat.Design.{Design}
-use Rattle.design_core.specs.Exec.{bit_at}
+use Rattle.bit_exprs.specs.Values.{bit_at}
 use Rattle.design_core.specs.Settled.{Settled, next_of, Hit}
 use Rattle.design_core.specs.Legality.{is_known}
 

@@ -1,26 +1,8 @@
 -- Which bits a body reads and drives.
-use Rattle.std.specs.Prelude.{ℕ, Bool, false, not, ◌&&◌, ◌||◌, ◌==◌, List, [], ◌∷◌}
-use Rattle.design_core.specs.declared.flat.Expr.{Expr, Row_of-Expr, end_of-Expr, more_of-Expr}
-use Rattle.design_core.specs.declared.flat.Expr.TheVariants.{Const, Read, Unary', Binary'}
+use Rattle.std.specs.Prelude.{ℕ, Bool, false, not, ◌&&◌, ◌||◌}
+use Rattle.bit_exprs.specs.Named.{among, reads, target_bits, certain_bits, target_reads}
 use Rattle.design_core.specs.declared.flat.Stmt.{Stmt, Row_of-Stmt, end_of-Stmt, more_of-Stmt}
 use Rattle.design_core.specs.declared.flat.Stmt.TheVariants.{Assign, Branch', Block'}
-use Rattle.design_core.specs.Exec.{target_bits}
-
-abbrev pub among : List ℕ → ℕ → Bool
-among [] b = false
-among (x ∷ xs) b = (x == b) || among xs b
-
-abbrev mutual
-  -- the expression reads bit b
-  pub reads : Expr → ℕ → Bool
-  reads (Const word) b = false
-  reads (Read bits) b = among bits b
-  reads (Unary' op p x) b = operand_reads x b
-  reads (Binary' op p x q y) b = operand_reads x b || operand_reads y b
-
-  pub operand_reads : {m : _} → Row_of-Expr m → ℕ → Bool
-  operand_reads end_of-Expr b = false
-  operand_reads (more_of-Expr e rest) b = reads e b
 
 abbrev mutual
   -- some path assigns bit b
@@ -34,9 +16,9 @@ abbrev mutual
   any_drives (more_of-Stmt s rest) b = drives s b || any_drives rest b
 
 abbrev mutual
-  -- every path assigns bit b at once
+  -- every path assigns bit b at once, whatever the indices are
   pub always : Stmt → ℕ → Bool
-  always (Assign site delayed target value) b = not delayed && among (target_bits target) b
+  always (Assign site delayed target value) b = not delayed && among (certain_bits target) b
   always (Branch' site test p x q y) b = any_always x b && any_always y b
   always (Block' shape all) b = any_always all b
 
@@ -47,7 +29,7 @@ abbrev mutual
 abbrev mutual
   -- bit b is read where not every path has assigned it at once before
   pub needs : Stmt → ℕ → Bool
-  needs (Assign site delayed target value) b = reads value b
+  needs (Assign site delayed target value) b = reads value b || target_reads target b
   needs (Branch' site test p x q y) b = reads test b || (any_needs x b || any_needs y b)
   needs (Block' shape all) b = any_needs all b
 

@@ -5,7 +5,8 @@ use Rattle.design_core.specs.declared.flat.Stmt.TheVariants.{Block}
 use Rattle.design_core.specs.declared.flat.ProcKind.TheVariants.{Comb}
 use Rattle.design_core.specs.declared.flat.Process.{Process}
 use Rattle.design_core.specs.declared.flat.Design.{Design}
-use Rattle.design_core.specs.Drive.{among, drives, always, needs}
+use Rattle.bit_exprs.specs.Named.{among}
+use Rattle.design_core.specs.Drive.{drives, always, needs}
 use Rattle.design_core.specs.Bounds.{IsWithin, AssignsBy}
 use Rattle.design_core.specs.Settled.{is_clocked}
 use Rattle.design_core.specs.Resets.{HasReset}

@@ -9,7 +9,7 @@ use Rattle.design_core.specs.declared.flat.Design.{Design}
 use Rattle.design_core.specs.declared.setup.Held.{Held}
 use Rattle.design_core.specs.declared.setup.Setup.{Setup}
 use Rattle.design_core.specs.declared.setup.Stimulus.{Stimulus}
-use Rattle.design_core.specs.Exec.{bit_at}
+use Rattle.bit_exprs.specs.Values.{bit_at}
 use Rattle.design_core.specs.Settled.{Settled, next_of}
 
 -- from these values of the registers, under these inputs, each cycle settles at these values

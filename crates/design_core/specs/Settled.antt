@@ -5,7 +5,8 @@ use Rattle.design_core.specs.declared.flat.ProcKind.{ProcKind}
 use Rattle.design_core.specs.declared.flat.ProcKind.TheVariants.{Comb, Clocked}
 use Rattle.design_core.specs.declared.flat.Reset.{Reset}
 use Rattle.design_core.specs.declared.flat.Design.{Design}
-use Rattle.design_core.specs.Exec.{bit_at, xor, exec}
+use Rattle.bit_exprs.specs.Values.{bit_at}
+use Rattle.design_core.specs.Exec.{xor, exec}
 
 abbrev pub is_clocked : ProcKind → Bool
 is_clocked Comb = false

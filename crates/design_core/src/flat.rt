@@ -1,10 +1,8 @@
 // A design after flattening.
 
+use bit_exprs::forms::{Bit, Expr, Target};
 use sqlite_items::{Boxed, Items};
 use word_core::{Name, Place};
-
-/// A bit, by its number, which is its place in the design's `bits`.
-pub type Bit = u32;
 
 /// A bit's name, and the value that it is declared to start with.
 #[derive(Drop)]
@@ -21,7 +19,7 @@ pub struct Declared {
     pub whole: Name,
 }
 
-/// A design with one clock. A bit is an input, the clock, a register, or a combinational process drives it;
+/// A design with one clock. A bit's number is its place in `bits`. A bit is an input, the clock, a register, or a combinational process drives it;
 /// one that nothing reads may be none of these.
 #[derive(Drop)]
 pub struct Design {
@@ -94,49 +92,6 @@ pub enum Stmt {
         no: Boxed<Stmt>,
     },
     Block(Items<Stmt>),
-}
-
-/// What is assigned: its parts, the least significant first.
-#[derive(Drop)]
-pub struct Target {
-    pub parts: Items<Part>,
-}
-
-/// A part of a target.
-#[derive(Drop)]
-pub enum Part {
-    Bits(Items<Bit>),
-}
-
-/// An expression, whose value is a word. Words are given with the least significant bit first.
-#[derive(Drop)]
-#[cycle(expr)]
-pub enum Expr {
-    Const(Items<bool>),
-    Read(Items<Bit>),
-    Unary {
-        op: UnaryOp,
-        value: Boxed<Expr>,
-    },
-    Binary {
-        op: BinaryOp,
-        left: Boxed<Expr>,
-        right: Boxed<Expr>,
-    },
-}
-
-/// An operator on one word, bit by bit.
-#[derive(Clone, Copy, Debug, PartialEq, Eq)]
-pub enum UnaryOp {
-    Not,
-}
-
-/// An operator on two words of one width, bit by bit.
-#[derive(Clone, Copy, Debug, PartialEq, Eq)]
-pub enum BinaryOp {
-    And,
-    Or,
-    Xor,
 }
 
 /// A place of the source that executing a body passes.

@@ -5,7 +5,8 @@ use Rattle.std.proofs.lemmas.List.{ext_get_or}
 use Rattle.std.proofs.lemmas.List.Elements.{All-nil, All-cons}
 use Rattle.std.proofs.lemmas.Bool.{cases_Bool}
 use Rattle.design_core.specs.declared.flat.Stmt.{Stmt}
-use Rattle.design_core.specs.Exec.{bit_at, exec}
+use Rattle.bit_exprs.specs.Values.{bit_at}
+use Rattle.design_core.specs.Exec.{exec}
 use Rattle.design_core.specs.Drive.{drives, always, needs}
 use Rattle.design_core.specs.Legality.{Placed}
 use Rattle.design_core.proofs.Truth.{or_left, or_right}

@@ -2,7 +2,8 @@
 use Rattle.std.proofs.Common.{◌≡◌, ℕ, List, [], ◌∷◌, refl, ◌∙◌, length, ◌<◌, ◌≤◌, false, arith}
 use Rattle.std.proofs.lemmas.List.{length-set}
 use Rattle.design_core.specs.declared.flat.Design.{Design}
-use Rattle.design_core.specs.Exec.{exec, perform}
+use Rattle.bit_exprs.specs.Updates.{perform}
+use Rattle.design_core.specs.Exec.{exec}
 use Rattle.design_core.specs.Legality.{IsLegal, process_at}
 use Rattle.event_order.specs.States.{State, woken}
 use Rattle.event_order.specs.Steps.{Step, Run, Update, MayTake, after, Leads}

@@ -5,11 +5,13 @@ use Rattle.std.proofs.lemmas.List.{length-set, length-map, get_or-map}
 use Rattle.std.proofs.lemmas.Bool.{cases_Bool}
 use Rattle.design_core.specs.declared.flat.Process.{Process}
 use Rattle.design_core.specs.declared.flat.Design.{Design}
-use Rattle.design_core.specs.Exec.{bit_at, exec, perform}
+use Rattle.bit_exprs.specs.Updates.{perform}
+use Rattle.bit_exprs.specs.Values.{bit_at}
+use Rattle.design_core.specs.Exec.{exec}
 use Rattle.design_core.specs.Drive.{drives}
 use Rattle.design_core.specs.Settled.{is_clocked, clocked_updates}
 use Rattle.design_core.specs.Legality.{IsLegal, idle, process_at}
-use Rattle.design_core.proofs.Effects.{length-perform}
+use Rattle.bit_exprs.proofs.Performing.{length-perform}
 use Rattle.design_core.proofs.ResetLaws.{SameInputs}
 use Rattle.event_order.specs.Cycles.{clocked, is_reset}
 use Rattle.event_order.proofs.Updates.{perform_twice, next_all, aside_clocked, aside_unclocked}

@@ -1,71 +1,16 @@
 -- The updates that executing lists behind those that wait.
-use Rattle.std.proofs.Common.{◌≡◌, ℕ, ◌+◌, ◌<◌, ◌≤◌, Bool, true, false, List, [], ◌∷◌, ◌++◌, length, take, drop, get_or, refl, sym, ap, ◌∙◌, subst, arith}
-use Rattle.std.proofs.lemmas.List.{append_assoc, append-nil, at_drop_more, drop_all, drop-drop, length-append}
-use Rattle.word_core.specs.Words.{any}
-use Rattle.design_core.specs.declared.flat.Part.{Part}
-use Rattle.design_core.specs.declared.flat.Expr.{Expr}
+use Rattle.std.proofs.Common.{◌≡◌, ℕ, ◌+◌, ◌<◌, ◌≤◌, nat_eq, Bool, true, false, not, List, ◌∷◌, ◌++◌, length, take, drop, get_or, refl, sym, ap, ◌∙◌, subst}
+use Rattle.std.proofs.lemmas.List.{append_assoc, append-nil, at_drop_more, drop_all}
+use Rattle.bit_exprs.specs.declared.forms.Expr.{Expr}
 use Rattle.design_core.specs.declared.flat.Stmt.{Stmt, Block, Branch}
 use Rattle.std.proofs.Math.Seq.{drop-append_seam, take-append_seam}
-use Rattle.design_core.specs.Exec.{Effect, bit_at, expr_value, part_bits, written, perform, assign, exec, exec_each}
-use Rattle.design_core.specs.Bounds.{ReadsBelow}
+use Rattle.bit_exprs.specs.Updates.{perform}
+use Rattle.bit_exprs.specs.Values.{value_of}
+use Rattle.design_core.specs.Exec.{Effect, assign, exec, exec_each}
+use Rattle.bit_exprs.specs.Formed.{IsFormed}
 use Rattle.design_core.proofs.Equations.{exec-Block}
 use Rattle.cycle_model.proofs.Blocks.{within_item, branch_within, branch_then, branch_else}
-use Rattle.cycle_model.proofs.Writing.{written-cons, drop-one, head-drop, written-append, rest, rest_more, rest_done}
 use Rattle.event_order.specs.Code.{NamesBelow}
-
--- ---- the bits of one part
-
--- one bit on
-pub list_more : (bits : List ℕ) (word : List Bool) (us vs : List (ℕ × Bool)) (from k b : ℕ) (x : Bool) → k < length bits → b ≡ get_or bits k b → x ≡ bit_at word (from + k) →
-    us ++ written (drop k bits) (drop (from + k) word) ≡ vs → (us ++ (b, x) ∷ []) ++ written (drop (k + 1) bits) (drop (from + (k + 1)) word) ≡ vs
-list_more bits word us vs from k b x lt at is so_far =
-    let w = drop (from + k) word in
-    let later : drop 1 w ≡ drop (from + (k + 1)) word = drop-one (from + k) word ∙ (let e : (from + k) + 1 ≡ from + (k + 1) = omega arith in ap (λ n. drop n word) e) in
-    let here : written (drop k bits) w ≡ (b, x) ∷ written (drop (k + 1) bits) (drop (from + (k + 1)) word) =
-    at_drop_more (λ bs. written bs w) bits k b lt
-    ∙ written-cons (get_or bits k b) (drop (k + 1) bits) w
-    ∙ ap (λ c. (c, bit_at w 0) ∷ written (drop (k + 1) bits) (drop 1 w)) (sym at)
-    ∙ ap (λ y. (b, y) ∷ written (drop (k + 1) bits) (drop 1 w)) (head-drop (from + k) word ∙ sym is)
-    ∙ ap (λ y. (b, x) ∷ written (drop (k + 1) bits) y) later in
-    append_assoc us ((b, x) ∷ []) (written (drop (k + 1) bits) (drop (from + (k + 1)) word)) ∙ ap (λ y. us ++ y) (sym here) ∙ so_far
-
-pub list_done : (bits : List ℕ) (word : List Bool) (us vs : List (ℕ × Bool)) (from k : ℕ) → length bits ≤ k → us ++ written (drop k bits) (drop (from + k) word) ≡ vs → us ≡ vs
-list_done bits word us vs from k le so_far =
-    sym (append-nil us) ∙ ap (λ bs. us ++ written bs (drop (from + k) word)) (sym (drop_all k bits le)) ∙ so_far
-
--- ---- the parts of a target
-
--- what holds once the parts before i were listed, of a word, as far as the place `from`
-pub record ListingParts (parts : List Part) (i from : ℕ) (word : List Bool) (us0 us : List (ℕ × Bool)) : Type 0 where
-  pub so_far : us ++ written (rest parts i) (drop from word) ≡ us0 ++ written (rest parts 0) word
-  pub left : from + length (rest parts i) ≡ length (rest parts 0)
-
-pub parts_begin : (parts : List Part) (word : List Bool) (us : List (ℕ × Bool)) → ListingParts parts 0 0 word us us
-parts_begin parts word us = record { so_far = refl; left = omega arith }
-
-module _ (parts : List Part) (i from : ℕ) (word : List Bool) (us0 us : List (ℕ × Bool)) (p : Part) (bits : List ℕ) (lt : i < length parts) (at : p ≡ get_or parts i p) (is : part_bits p ≡ bits) (h : ListingParts parts i from word us0 us) where
-  split : rest parts i ≡ bits ++ rest parts (i + 1)
-  split = rest_more parts i p lt at ∙ ap (λ bs. bs ++ rest parts (i + 1)) is
-
-  pub parts_left : from + length bits ≤ length (rest parts 0)
-  parts_left = omega (arith, h.left, ap length split, length-append bits (rest parts (i + 1)))
-
-  pub parts_more : (us' : List (ℕ × Bool)) → us' ≡ us ++ written bits (drop from word) → ListingParts parts (i + 1) (from + length bits) word us0 us'
-  parts_more us' e = record {
-    so_far =
-        (let later : drop (from + length bits) word ≡ drop (length bits) (drop from word) = sym (drop-drop (length bits) from word) in
-        ap (λ w. us' ++ written (rest parts (i + 1)) w) later
-        ∙ ap (λ x. x ++ written (rest parts (i + 1)) (drop (length bits) (drop from word))) e
-        ∙ append_assoc us (written bits (drop from word)) (written (rest parts (i + 1)) (drop (length bits) (drop from word)))
-        ∙ ap (λ x. us ++ x) (sym (ap (λ bs. written bs (drop from word)) split ∙ written-append bits (rest parts (i + 1)) (drop from word)))
-        ∙ h.so_far);
-    left = omega (arith, h.left, ap length split, length-append bits (rest parts (i + 1)));
-  }
-
-pub parts_done : (parts : List Part) (i from : ℕ) (word : List Bool) (us0 us : List (ℕ × Bool)) → length parts ≤ i → ListingParts parts i from word us0 us →
-    us ≡ us0 ++ written (rest parts 0) word
-parts_done parts i from word us0 us le h =
-    sym (append-nil us) ∙ ap (λ bs. us ++ written bs (drop from word)) (sym (rest_done parts i le)) ∙ h.so_far
 
 -- ---- the statements of a block
 
@@ -114,7 +59,7 @@ names_item body all items s i n n' h is listed at lt same = (h.0, within_item bo
 -- ---- a branch
 
 module _ (body : Stmt) (site : ℕ) (test : Expr) (x y : Stmt) (is : body ≡ Branch site test x y) where
-  pub names_test : (n : ℕ) → NamesBelow body n → ReadsBelow test n
+  pub names_test : (n : ℕ) → NamesBelow body n → IsFormed test n
   names_test n h = (branch_within body site test x y is n h.0 h.1).1
 
   pub names_then : (n : ℕ) → NamesBelow body n → NamesBelow x n
@@ -123,10 +68,10 @@ module _ (body : Stmt) (site : ℕ) (test : Expr) (x y : Stmt) (is : body ≡ Br
   pub names_else : (n : ℕ) → NamesBelow body n → NamesBelow y n
   names_else n h = (h.0, (branch_within body site test x y is n h.0 h.1).3)
 
-  pub laid_then : (h : Laid) (c : Bool) → c ≡ true → c ≡ any (expr_value test h.values) → laid body h ≡ laid x h
+  pub laid_then : (h : Laid) (c : Bool) → c ≡ true → c ≡ not (nat_eq (value_of test h.values) 0) → laid body h ≡ laid x h
   laid_then h c on e = ap (λ f. onto f h) (branch_then body site test x y is h.values c on e)
 
-  pub laid_else : (h : Laid) (c : Bool) → c ≡ false → c ≡ any (expr_value test h.values) → laid body h ≡ laid y h
+  pub laid_else : (h : Laid) (c : Bool) → c ≡ false → c ≡ not (nat_eq (value_of test h.values) 0) → laid body h ≡ laid y h
   laid_else h c off e = ap (λ f. onto f h) (branch_else body site test x y is h.values c off e)
 
 -- ---- what was listed last

@@ -8,13 +8,13 @@ use Rattle.design_core.specs.declared.flat.Process.{Process}
 use Rattle.design_core.specs.declared.flat.Design.{Design}
 use Rattle.design_core.specs.declared.setup.Setup.{Setup}
 use Rattle.design_core.specs.declared.setup.Stimulus.{Stimulus}
-use Rattle.design_core.specs.Exec.{perform}
+use Rattle.bit_exprs.specs.Updates.{perform}
 use Rattle.design_core.specs.Settled.{is_clocked, next_of, Hit}
 use Rattle.design_core.specs.Legality.{IsLegal}
 use Rattle.design_core.specs.Alike.{Alike}
 use Rattle.design_core.specs.Runs.{IsRun, Fits}
 use Rattle.design_core.specs.Verdicts.{Point, Passes, NotWithin, HitAt}
-use Rattle.design_core.proofs.Effects.{length-perform}
+use Rattle.bit_exprs.proofs.Performing.{length-perform}
 use Rattle.design_core.proofs.Settling.{registers_put}
 use Rattle.design_core.proofs.OneSettling.{alike}
 use Rattle.design_core.proofs.RunLaws.{run_exists}

@@ -3,7 +3,7 @@ use Rattle.std.proofs.Common.{◌≡◌, ℕ, Bool, false, List, sym, ◌∙◌,
 use Rattle.std.proofs.lemmas.List.{ext_get_or, length-map, get_or-map, get_or-set_same, get_or-set_other, length-set}
 use Rattle.std.proofs.lemmas.Bool.{cases_eq}
 use Rattle.design_core.specs.declared.flat.Process.{Process}
-use Rattle.design_core.specs.Exec.{bit_at}
+use Rattle.bit_exprs.specs.Values.{bit_at}
 
 pub record MarkedBefore (f : Process → Bool) (ps : List Process) (n : ℕ) (flags : List Bool) : Type 0 where
   pub long : length flags ≡ length ps

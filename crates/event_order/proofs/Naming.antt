@@ -2,7 +2,7 @@
 use Rattle.std.proofs.Common.{◌≡◌, ℕ, zero, suc, Bool, true, List, [], ◌∷◌, refl, sym, ap, ◌∙◌, subst, length, ◌<◌, ◌≤◌, ◌≢◌, ◌/◌, ◌%◌, ◌^◌, inl, inr, ◌⊎◌, true≢false, arith}
 use Rattle.std.proofs.lemmas.Bool.{cases_eq}
 use Rattle.design_core.specs.declared.flat.Design.{Design}
-use Rattle.design_core.specs.Exec.{bit_at}
+use Rattle.bit_exprs.specs.Values.{bit_at}
 use Rattle.design_core.specs.Legality.{IsLegal}
 use Rattle.event_order.specs.States.{State, IsIdle, IsQuiet}
 use Rattle.event_order.specs.Steps.{Step, Run, Update, MayTake, ran, updated}

@@ -1,7 +1,7 @@
 -- The numbers of the flags that are up.
 use Rattle.std.proofs.Common.{◌≡◌, ℕ, zero, suc, Bool, true, false, cond, List, [], ◌∷◌, refl, sym, ap, ◌∙◌, get_or, drop, length, ◌<◌, ◌+◌, ◌-◌, arith}
 use Rattle.std.proofs.lemmas.List.{at_drop_more}
-use Rattle.design_core.specs.Exec.{bit_at}
+use Rattle.bit_exprs.specs.Values.{bit_at}
 use Rattle.event_order.specs.Numbers.{numbers_from}
 
 numbers_at : (flags : List Bool) (k : ℕ) → k < length flags →

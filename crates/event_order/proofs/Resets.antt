@@ -9,12 +9,14 @@ use Rattle.design_core.specs.declared.flat.ProcKind.TheVariants.{Comb, Clocked}
 use Rattle.design_core.specs.declared.flat.Reset.{Reset}
 use Rattle.design_core.specs.declared.flat.Process.{Process}
 use Rattle.design_core.specs.declared.flat.Design.{Design}
-use Rattle.design_core.specs.Exec.{bit_at, xor, exec, perform}
+use Rattle.bit_exprs.specs.Updates.{perform}
+use Rattle.bit_exprs.specs.Values.{bit_at}
+use Rattle.design_core.specs.Exec.{xor, exec}
 use Rattle.design_core.specs.Drive.{drives}
 use Rattle.design_core.specs.Settled.{is_clocked, is_active, reset_of, reset_updates}
 use Rattle.design_core.specs.Resets.{IsResetBody, HasReset}
 use Rattle.design_core.specs.Legality.{idle}
-use Rattle.design_core.proofs.Updates.{perform-append}
+use Rattle.bit_exprs.proofs.Performing.{perform-append}
 use Rattle.design_core.proofs.ResetLaws.{SameInputs, reset_updates_same, all_in}
 use Rattle.event_order.specs.Cycles.{is_reset}
 use Rattle.event_order.proofs.Updates.{OwnBits, updates_other}

@@ -7,12 +7,14 @@ use Rattle.std.proofs.lemmas.List.Elements.{All-head, All-tail}
 use Rattle.std.proofs.lemmas.Bool.{or_parts, and_parts, cases_Bool, not-false}
 use Rattle.design_core.specs.declared.flat.Process.{Process}
 use Rattle.design_core.specs.declared.flat.Design.{Design}
-use Rattle.design_core.specs.Exec.{bit_at, exec, perform}
+use Rattle.bit_exprs.specs.Updates.{perform}
+use Rattle.bit_exprs.specs.Values.{bit_at}
+use Rattle.design_core.specs.Exec.{exec}
 use Rattle.design_core.specs.Drive.{drives}
 use Rattle.design_core.specs.Settled.{is_clocked, Settled, updated, clocked_updates, reset_updates, next_of}
 use Rattle.design_core.specs.Legality.{IsLegal, idle, process_at}
 use Rattle.design_core.specs.Runs.{IsRun}
-use Rattle.design_core.proofs.Effects.{length-perform}
+use Rattle.bit_exprs.proofs.Performing.{length-perform}
 use Rattle.design_core.proofs.Updates.{bit_performed}
 use Rattle.design_core.proofs.Settling.{inputs_at, inputs_other, Contains-some}
 use Rattle.event_order.specs.Registers.{registers_in}

@@ -5,14 +5,17 @@ use Rattle.std.specs.Prelude.{Contains}
 use Rattle.std.proofs.lemmas.Bool.{cases_eq, cases_Bool}
 use Rattle.design_core.specs.declared.flat.Process.{Process}
 use Rattle.design_core.specs.declared.flat.Design.{Design}
-use Rattle.design_core.specs.Exec.{bit_at, exec, perform}
-use Rattle.design_core.specs.Drive.{among, drives}
+use Rattle.bit_exprs.specs.Updates.{perform}
+use Rattle.bit_exprs.specs.Values.{bit_at}
+use Rattle.design_core.specs.Exec.{exec}
+use Rattle.bit_exprs.specs.Named.{among}
+use Rattle.design_core.specs.Drive.{drives}
 use Rattle.design_core.specs.Bounds.{AssignsBy}
 use Rattle.design_core.specs.Settled.{is_clocked}
 use Rattle.design_core.specs.Legality.{IsLegal, idle, process_at, bodies, is_given}
 use Rattle.design_core.proofs.Truth.{or_left, or_right}
-use Rattle.design_core.proofs.Effects.{untouched, same_length, waits, length-perform}
-use Rattle.design_core.proofs.Updates.{perform-append}
+use Rattle.bit_exprs.proofs.Performing.{length-perform, perform-append}
+use Rattle.design_core.proofs.Effects.{untouched, same_length, waits}
 use Rattle.design_core.proofs.ResetLaws.{SameInputs}
 use Rattle.design_core.proofs.Settling.{of_bodies, some_among, some-Contains}
 use Rattle.event_order.specs.States.{State, woken}

@@ -6,7 +6,7 @@ use Rattle.design_core.specs.declared.flat.Process.{Process}
 use Rattle.design_core.specs.declared.flat.Design.{Design}
 use Rattle.design_core.specs.Ordered.{Ordered}
 use Rattle.design_core.specs.Legality.{IsLegal}
-use Rattle.design_core.proofs.Effects.{length-perform}
+use Rattle.bit_exprs.proofs.Performing.{length-perform}
 use Rattle.design_core.proofs.OneSettling.{alike}
 use Rattle.design_core.proofs.Settling.{registers_put}
 use Rattle.event_order.specs.Cycles.{begun}

@@ -1,19 +1,20 @@
 -- What one turn of the code does.
-use Rattle.std.proofs.Common.{◌≡◌, ℕ, zero, suc, Bool, true, false, cond, List, [], ◌∷◌, ◌++◌, refl, sym, ap, ◌∙◌, subst, set, length, ◌<◌, ◌≤◌, ◌≢◌, ◌+◌, ◌-◌, ◌^◌, ◌==◌, inl, inr, arith, min, map}
+use Rattle.std.proofs.Common.{◌≡◌, ℕ, zero, suc, nat_eq, Bool, true, false, List, [], ◌∷◌, ◌++◌, refl, sym, ap, ◌∙◌, subst, set, length, ◌<◌, ◌≤◌, ◌≢◌, ◌+◌, ◌-◌, ◌^◌, ◌==◌, inl, inr, arith, min, map}
 use Rattle.std.specs.Prelude.{All}
 use Rattle.std.proofs.lemmas.List.{append-nil, length-append, ext_get_or, length-map, get_or-map}
-use Rattle.std.proofs.lemmas.List.Elements.{All-nil, All-cons, All-append, All-head, All-tail}
+use Rattle.std.proofs.lemmas.List.Elements.{All-nil, All-append}
 use Rattle.std.proofs.lemmas.Bool.{cases_Bool, eq-eqb}
-use Rattle.word_core.specs.Words.{any}
 use Rattle.design_core.specs.declared.flat.Stmt.{Stmt, Row_of-Stmt, end_of-Stmt, more_of-Stmt}
 use Rattle.design_core.specs.declared.flat.Stmt.TheVariants.{Assign, Branch', Block'}
 use Rattle.design_core.specs.declared.flat.Process.{Process}
 use Rattle.design_core.specs.declared.flat.Design.{Design}
-use Rattle.design_core.specs.Exec.{Effect, bit_at, expr_value, target_bits, written, past, exec, exec_all}
+use Rattle.bit_exprs.specs.Values.{bit_at, value_of}
+use Rattle.design_core.specs.Exec.{past, exec, exec_all}
 use Rattle.design_core.specs.Bounds.{IsWithin, AreWithin}
 use Rattle.design_core.specs.Settled.{is_clocked}
 use Rattle.design_core.specs.Legality.{IsLegal, idle, process_at}
-use Rattle.design_core.proofs.Effects.{waits}
+use Rattle.bit_exprs.proofs.Given.{updates_below}
+use Rattle.design_core.proofs.Effects.{by_cond, waits}
 use Rattle.event_order.specs.States.{State, Phase, Settling, Clocked, woken}
 use Rattle.event_order.specs.Steps.{Step, Run, Update, ran, updated, Leads}
 use Rattle.event_order.specs.Cycles.{begun, clocked, Cycle}
@@ -25,24 +26,12 @@ use Rattle.event_order.proofs.Updates.{puts_nothing}
 use Rattle.event_order.proofs.Settling.{assigns_as}
 use Rattle.event_order.proofs.Working.{work_combinational, work_clocked, work_update, after_run}
 
--- updates of bits below n
-pub written_below : (bits : List ℕ) (word : List Bool) (n : ℕ) → All (λ b. b < n) bits → UpdatesBelow (written bits word) n
-written_below [] word n h = All-nil (λ (u : ℕ × Bool). u.0 < n)
-written_below (b ∷ bits) [] n h =
-    All-cons (λ (u : ℕ × Bool). u.0 < n) (b, false) (written bits []) (All-head (λ x. x < n) b bits h) (written_below bits [] n (All-tail (λ x. x < n) b bits h))
-written_below (b ∷ bits) (x ∷ word) n h =
-    All-cons (λ (u : ℕ × Bool). u.0 < n) (b, x) (written bits word) (All-head (λ x. x < n) b bits h) (written_below bits word n (All-tail (λ x. x < n) b bits h))
-
-by_cond : (P : Effect → Type 0) (c : Bool) (e f : Effect) → P e → P f → P (cond c e f)
-by_cond P true e f x y = x
-by_cond P false e f x y = y
-
 mutual
   updates_within : (s : Stmt) (n m : ℕ) (v : List Bool) → IsWithin s n m → UpdatesBelow (exec s v).updates n
-  updates_within (Assign site true target value) n m v h = written_below (target_bits target) (expr_value value v) n h.1
+  updates_within (Assign site true target value) n m v h = updates_below n target (value_of value v) v h.1
   updates_within (Assign site false target value) n m v h = All-nil (λ (u : ℕ × Bool). u.0 < n)
   updates_within (Branch' site test p x q y) n m v h =
-      by_cond (λ e. UpdatesBelow e.updates n) (any (expr_value test v)) (past (site ∷ []) (exec_all x v)) (past ((site + 1) ∷ []) (exec_all y v)) (all_updates_within x n m v h.2) (all_updates_within y n m v h.3)
+      by_cond (λ e. UpdatesBelow e.updates n) (nat_eq (value_of test v) 0) (past ((site + 1) ∷ []) (exec_all y v)) (past (site ∷ []) (exec_all x v)) (all_updates_within y n m v h.3) (all_updates_within x n m v h.2)
   updates_within (Block' shape all) n m v h = all_updates_within all n m v h
 
   all_updates_within : {k : _} (all : Row_of-Stmt k) (n m : ℕ) (v : List Bool) → AreWithin all n m → UpdatesBelow (exec_all all v).updates n

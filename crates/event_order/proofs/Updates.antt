@@ -1,20 +1,22 @@
 -- Lists of updates.
-use Rattle.std.proofs.Common.{◌≡◌, ℕ, zero, suc, Bool, true, false, cond, List, [], ◌∷◌, ◌++◌, refl, sym, ap, ◌∙◌, get_or, set, length, ◌<◌, ◌≢◌, inl, inr, ◌⊎◌, arith}
+use Rattle.std.proofs.Common.{◌≡◌, ℕ, zero, suc, nat_eq, Bool, true, false, cond, List, [], ◌∷◌, ◌++◌, refl, sym, ap, ◌∙◌, get_or, set, length, ◌<◌, ◌≢◌, inl, inr, ◌⊎◌, arith}
 use Rattle.std.specs.Prelude.{flat_map}
 use Rattle.std.proofs.lemmas.List.{get_or-set_other, get_or-set_same, length-set, get_or_past}
 use Rattle.std.proofs.lemmas.Bool.{cases_eq, cases_lt, cases_Bool}
-use Rattle.word_core.specs.Words.{any}
 use Rattle.design_core.specs.declared.flat.Stmt.{Stmt, Row_of-Stmt, end_of-Stmt, more_of-Stmt}
 use Rattle.design_core.specs.declared.flat.Stmt.TheVariants.{Assign, Branch', Block'}
 use Rattle.design_core.specs.declared.flat.Process.{Process}
 use Rattle.design_core.specs.declared.flat.Design.{Design}
-use Rattle.design_core.specs.Exec.{bit_at, exec, exec_all, expr_value, target_bits, perform}
+use Rattle.bit_exprs.specs.Updates.{perform, updates_of}
+use Rattle.bit_exprs.specs.Values.{bit_at, value_of}
+use Rattle.design_core.specs.Exec.{exec, exec_all}
 use Rattle.design_core.specs.Drive.{drives, any_drives}
 use Rattle.design_core.specs.Bounds.{AssignsBy, AssignBy}
 use Rattle.design_core.specs.Settled.{is_clocked, clocked_updates}
 use Rattle.design_core.proofs.Truth.{or_false_left, or_false_right}
-use Rattle.design_core.proofs.Effects.{by_cond, length-perform, written_other}
-use Rattle.design_core.proofs.Updates.{perform-append}
+use Rattle.bit_exprs.proofs.Performing.{length-perform, perform-append, performed_other, performed_both}
+use Rattle.bit_exprs.proofs.Given.{not_given}
+use Rattle.design_core.proofs.Effects.{by_cond}
 
 -- blocking assignments leave no updates
 mutual
@@ -22,7 +24,7 @@ mutual
   puts_nothing (Assign site true target value) v h = cc
   puts_nothing (Assign site false target value) v h = refl
   puts_nothing (Branch' site test p x q y) v h =
-      by_cond (λ e. e.updates ≡ []) (any (expr_value test v)) _ _ (puts_nothing_all x v h.0) (puts_nothing_all y v h.1)
+      by_cond (λ e. e.updates ≡ []) (nat_eq (value_of test v) 0) _ _ (puts_nothing_all y v h.1) (puts_nothing_all x v h.0)
   puts_nothing (Block' shape all) v h = puts_nothing_all all v h
 
   puts_nothing_all : {m : _} (all : Row_of-Stmt m) (v : List Bool) → AssignBy false all → (exec_all all v).updates ≡ []
@@ -45,29 +47,16 @@ abbrev pub next_all : Design → List Bool → List Bool
 next_all d v = perform (clocked_updates d.processes v) v
 
 pub perform_same : (us : List (ℕ × Bool)) (v w : List Bool) (b : ℕ) → length v ≡ length w → bit_at v b ≡ bit_at w b → bit_at (perform us v) b ≡ bit_at (perform us w) b
-perform_same [] v w b len h = h
-perform_same (u ∷ us) v w b len h = perform_same us (set v u.0 u.1) (set w u.0 u.1) b (length-set v u.0 u.1 ∙ len ∙ sym (length-set w u.0 u.1)) here
-  where
-    same : (t : ℕ) (x : Bool) → t ≡ b → bit_at (set v t x) b ≡ bit_at (set w t x) b
-    same t x e = elim (cases_lt b (length v)) [
-      | inl lt ↦ rw e (get_or-set_same v b x false lt ∙ sym (get_or-set_same w b x false (omega arith)))
-      | inr le ↦ get_or_past (set v t x) b false (omega (arith, length-set v t x)) ∙ sym (get_or_past (set w t x) b false (omega (arith, length-set w t x)))
-    ]
-
-    here : bit_at (set v u.0 u.1) b ≡ bit_at (set w u.0 u.1) b
-    here = elim (cases_eq u.0 b) [
-      | inl e ↦ same u.0 u.1 e
-      | inr ne ↦ get_or-set_other v u.0 b u.1 false (λ e. ne (sym e)) ∙ h ∙ sym (get_or-set_other w u.0 b u.1 false (λ e. ne (sym e)))
-    ]
+perform_same us v w b len h = performed_both us v w b len (λ no. h)
 
 -- the updates of a body are of the bits that it drives
 mutual
   pub updates_other : (s : Stmt) (v w : List Bool) (b : ℕ) → drives s b ≡ false → bit_at (perform (exec s v).updates w) b ≡ bit_at w b
-  updates_other (Assign site true target value) v w b h = written_other (target_bits target) (expr_value value v) w b h
+  updates_other (Assign site true target value) v w b h = performed_other (updates_of target (value_of value v) v) w b (not_given target (value_of value v) v b h)
   updates_other (Assign site false target value) v w b h = refl
   updates_other (Branch' site test p x q y) v w b h =
-      by_cond (λ e. bit_at (perform e.updates w) b ≡ bit_at w b) (any (expr_value test v)) _ _
-      (updates_other_all x v w b (or_false_left _ _ h)) (updates_other_all y v w b (or_false_right (any_drives x b) _ h))
+      by_cond (λ e. bit_at (perform e.updates w) b ≡ bit_at w b) (nat_eq (value_of test v) 0) _ _
+      (updates_other_all y v w b (or_false_right (any_drives x b) _ h)) (updates_other_all x v w b (or_false_left _ _ h))
   updates_other (Block' shape all) v w b h = updates_other_all all v w b h
 
   updates_other_all : {m : _} (all : Row_of-Stmt m) (v w : List Bool) (b : ℕ) → any_drives all b ≡ false → bit_at (perform (exec_all all v).updates w) b ≡ bit_at w b

@@ -4,12 +4,12 @@ use Rattle.std.proofs.lemmas.List.{ext_get_or}
 use Rattle.std.proofs.lemmas.Bool.{cases_eq, cases_Bool}
 use Rattle.design_core.specs.declared.flat.Process.{Process}
 use Rattle.design_core.specs.declared.flat.Design.{Design}
-use Rattle.design_core.specs.Exec.{bit_at, perform}
+use Rattle.bit_exprs.specs.Updates.{perform}
+use Rattle.bit_exprs.specs.Values.{bit_at}
 use Rattle.design_core.specs.Drive.{drives}
 use Rattle.design_core.specs.Settled.{is_clocked, clocked_updates}
 use Rattle.design_core.specs.Legality.{process_at}
-use Rattle.design_core.proofs.Effects.{length-perform}
-use Rattle.design_core.proofs.Updates.{perform-append}
+use Rattle.bit_exprs.proofs.Performing.{length-perform, perform-append}
 use Rattle.event_order.proofs.Drivers.{HasOneDriver, only_driver}
 use Rattle.event_order.proofs.Updates.{OwnBits, none_drives, one_drives, perform_same, aside, aside_other, aside_unclocked, next_all}
 use Rattle.event_order.specs.States.{some_below}

@@ -3,7 +3,8 @@ use Rattle.std.proofs.Common.{◌≡◌, ℕ, zero, suc, Bool, true, false, not,
 use Rattle.std.proofs.lemmas.List.{get_or_default, get_or_past, ext_get_or, get_or-set_same, get_or-set_other, length-set}
 use Rattle.std.proofs.lemmas.Bool.{cases_eq, cases_lt, cases_Bool, or_parts, or_cases, and_parts}
 use Rattle.design_core.specs.declared.flat.Process.{Process}
-use Rattle.design_core.specs.Exec.{bit_at, xor}
+use Rattle.bit_exprs.specs.Values.{bit_at}
+use Rattle.design_core.specs.Exec.{xor}
 use Rattle.design_core.specs.Drive.{needs}
 use Rattle.design_core.specs.Settled.{is_clocked}
 use Rattle.design_core.specs.Legality.{idle}

@@ -2,7 +2,7 @@
 use Rattle.std.specs.Prelude.{◌≡◌, Bool, true, false, not, ◌&&◌, ◌||◌, List, [], ◌∷◌, map, zip}
 use Rattle.design_core.specs.declared.flat.Process.{Process}
 use Rattle.design_core.specs.declared.flat.Design.{Design}
-use Rattle.design_core.specs.Exec.{perform}
+use Rattle.bit_exprs.specs.Updates.{perform}
 use Rattle.design_core.specs.Settled.{is_clocked, reset_of, is_active}
 use Rattle.event_order.specs.States.{State, Phase, Fresh, Settling, Clocked, IsQuiet, raised, woken}
 use Rattle.event_order.specs.Steps.{Step, Leads}

@@ -1,7 +1,9 @@
 -- When a cycle may begin.
 use Rattle.std.specs.Prelude.{ℕ, ◌≡◌, ◌<◌, Bool, true, false, List, [], length}
 use Rattle.design_core.specs.declared.flat.Design.{Design}
-use Rattle.design_core.specs.Exec.{bit_at, exec, perform}
+use Rattle.bit_exprs.specs.Updates.{perform}
+use Rattle.bit_exprs.specs.Values.{bit_at}
+use Rattle.design_core.specs.Exec.{exec}
 use Rattle.design_core.specs.Drive.{drives}
 use Rattle.design_core.specs.Settled.{is_clocked}
 use Rattle.design_core.specs.Legality.{process_at}

@@ -1,7 +1,8 @@
 -- What the machine is at a moment.
 use Rattle.std.specs.Prelude.{ℕ, zero, suc, ◌≡◌, Bool, false, not, ◌&&◌, ◌||◌, List, [], ◌∷◌, length}
 use Rattle.design_core.specs.declared.flat.Process.{Process}
-use Rattle.design_core.specs.Exec.{bit_at, xor}
+use Rattle.bit_exprs.specs.Values.{bit_at}
+use Rattle.design_core.specs.Exec.{xor}
 use Rattle.design_core.specs.Drive.{needs}
 use Rattle.design_core.specs.Settled.{is_clocked}
 

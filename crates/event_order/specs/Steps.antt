@@ -1,7 +1,9 @@
 -- The steps of the machine.
 use Rattle.std.specs.Prelude.{ℕ, ◌≡◌, ◌≢◌, ◌<◌, true, false, List, [], ◌∷◌, ◌++◌, length, slice_set}
 use Rattle.design_core.specs.declared.flat.Design.{Design}
-use Rattle.design_core.specs.Exec.{bit_at, exec, perform}
+use Rattle.bit_exprs.specs.Updates.{perform}
+use Rattle.bit_exprs.specs.Values.{bit_at}
+use Rattle.design_core.specs.Exec.{exec}
 use Rattle.design_core.specs.Legality.{process_at}
 use Rattle.event_order.specs.States.{State, IsIdle, woken}
 

@@ -1,7 +1,7 @@
 -- How much work is left. Every step makes it less.
 use Rattle.std.specs.Prelude.{ℕ, zero, suc, ◌+◌, ◌*◌, ◌^◌, Bool, cond, ◌&&◌, List, [], ◌∷◌, length}
 use Rattle.design_core.specs.declared.flat.Design.{Design}
-use Rattle.design_core.specs.Exec.{bit_at}
+use Rattle.bit_exprs.specs.Values.{bit_at}
 use Rattle.design_core.specs.Settled.{is_clocked}
 use Rattle.design_core.specs.Legality.{process_at}
 

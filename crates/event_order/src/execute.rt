@@ -1,53 +1,17 @@
 // Executing a body, with a list of the updates that wait.
 
-ghost use Rattle.std.specs.Prelude.{◌≡◌, ◌<◌, ◌≤◌, ◌+◌, ◌++◌, length, take, drop, All, OnOk};
-ghost use Rattle.design_core.specs.Exec.{expr_value, width_of, target_bits, written, perform, assign, exec};
-ghost use Rattle.design_core.specs.Bounds.{ReadsBelow};
+ghost use Rattle.std.specs.Prelude.{◌≡◌, ◌<◌, ◌≤◌, ◌++◌, length, take, drop, All, OnOk};
+ghost use Rattle.bit_exprs.specs.Values.{value_of};
+ghost use Rattle.bit_exprs.specs.Updates.{updates_of, perform};
+ghost use Rattle.bit_exprs.specs.Formed.{IsFormed, TargetFormed};
+ghost use Rattle.design_core.specs.Exec.{assign, exec};
 ghost use Rattle.event_order.specs.Code.{NamesBelow};
 
-use cycle_model::execute::{holds, named, value_bit};
-use design_core::flat::{Bit, Expr, Stmt, Target};
+use bit_exprs::forms::{Bit, Expr, Target};
+use cycle_model::execute::holds;
+use design_core::flat::Stmt;
+use expr_value::{list, value};
 use std::alloc::AllocError;
-
-/// Puts updates of these bits behind the others, by the value's bits from the place `from` on.
-fn list_bits(
-    bits: &[Bit],
-    from: usize,
-    source: &Expr,
-    values: &[bool],
-    waiting: &mut Vec<(Bit, bool)>,
-) -> Result<(), AllocError>
-    requires below { ReadsBelow source.now (length values.now) }
-    requires wide { from + length bits.now ≤ width_of source.now }
-    requires bounded { width_of source.now ≤ 128 }
-    ensures { OnOk result (waiting.new.items ≡ waiting.old.items ++ written bits.now (drop from (expr_value source.now values.now))) }
-{
-    for (k, bit) in bits.iter().enumerate() {
-        waiting.push((*bit, value_bit(source, from + k, values)))?;
-    }
-    Ok(())
-}
-
-/// Puts the updates of an assignment behind the others.
-fn list_target(
-    target: &Target,
-    source: &Expr,
-    values: &[bool],
-    waiting: &mut Vec<(Bit, bool)>,
-) -> Result<(), AllocError>
-    requires below { ReadsBelow source.now (length values.now) }
-    requires wide { length (target_bits target.now) ≤ width_of source.now }
-    requires bounded { width_of source.now ≤ 128 }
-    ensures { OnOk result (waiting.new.items ≡ waiting.old.items ++ written (target_bits target.now) (expr_value source.now values.now)) }
-{
-    let mut from: usize = 0;
-    for part in target.parts.as_slice() {
-        let bits = named(part);
-        list_bits(bits, from, source, values, waiting)?;
-        from += bits.len();
-    }
-    Ok(())
-}
 
 /// Performs updates in order.
 pub fn perform_each(updates: &[(Bit, bool)], values: &mut [bool])
@@ -78,15 +42,14 @@ fn assign(
     values: &mut [bool],
     waiting: &mut Vec<(Bit, bool)>,
 ) -> Result<(), AllocError>
-    requires within { All (λ b. b < length values.old) (target_bits target.now) }
-    requires below { ReadsBelow source.now (length values.old) }
-    requires wide { length (target_bits target.now) ≤ width_of source.now }
-    requires bounded { width_of source.now ≤ 128 }
-    ensures values { OnOk result (values.new ≡ (assign delayed (written (target_bits target.now) (expr_value source.now values.old)) values.old).values) }
-    ensures waiting { OnOk result (waiting.new.items ≡ waiting.old.items ++ (assign delayed (written (target_bits target.now) (expr_value source.now values.old)) values.old).updates) }
+    requires target { TargetFormed target.now (length values.old) }
+    requires source { IsFormed source.now (length values.old) }
+    ensures values { OnOk result (values.new ≡ (assign delayed (updates_of target.now (value_of source.now values.old) values.old) values.old).values) }
+    ensures waiting { OnOk result (waiting.new.items ≡ waiting.old.items ++ (assign delayed (updates_of target.now (value_of source.now values.old) values.old) values.old).updates) }
 {
     let from = waiting.len();
-    list_target(target, source, values, waiting)?;
+    let word = value(source, values);
+    list(target, word, values, waiting)?;
     if !delayed {
         perform_from(from, values, waiting);
     }

@@ -1,7 +1,7 @@
 // Steps until all is quiet.
 
 ghost use Rattle.std.specs.Prelude.{◌≡◌, ℕ, ◌<◌, [], List, All, length, false, OnOk, IfOk, MatchOption};
-ghost use Rattle.design_core.specs.Exec.{bit_at};
+ghost use Rattle.bit_exprs.specs.Values.{bit_at};
 ghost use Rattle.design_core.specs.Bounds.{IsWithin};
 ghost use Rattle.design_core.specs.Legality.{IsLegal};
 ghost use Rattle.event_order.specs.Work.{work};
@@ -9,7 +9,8 @@ ghost use Rattle.event_order.specs.Code.{UpdatesBelow, moment, Stepped, Gone};
 
 use crate::pick::{next, pick};
 use crate::steps::{run, update};
-use design_core::flat::{Bit, Design};
+use bit_exprs::forms::Bit;
+use design_core::flat::Design;
 use std::alloc::AllocError;
 
 /// The number that names the steps to come, and how many were taken.

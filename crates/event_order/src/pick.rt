@@ -1,7 +1,7 @@
 // Which pending process an order number names.
 
 ghost use Rattle.std.specs.Prelude.{◌≡◌, ℕ, ◌<◌, length, true, false, MatchOption, slice_index};
-ghost use Rattle.design_core.specs.Exec.{bit_at};
+ghost use Rattle.bit_exprs.specs.Values.{bit_at};
 ghost use Rattle.event_order.specs.Numbers.{numbers_from, chosen, next_number};
 
 /// How many flags are up.

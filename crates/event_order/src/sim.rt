@@ -1,7 +1,7 @@
 // A simulator that runs the processes of a legal design in any order.
 
 ghost use Rattle.std.specs.Prelude.{◌≡◌, ◌<◌, true, false, length, IfOk, OnOk, OnErr};
-ghost use Rattle.design_core.specs.Exec.{bit_at};
+ghost use Rattle.bit_exprs.specs.Values.{bit_at};
 ghost use Rattle.design_core.specs.Settled.{Settled, next_of};
 ghost use Rattle.event_order.specs.Cycles.{begun};
 ghost use Rattle.event_order.specs.Registers.{registers_in};
@@ -9,8 +9,8 @@ ghost use Rattle.event_order.specs.Ready.{IsReady};
 ghost use Rattle.event_order.specs.Sims.{EventMachine, state_of, between, started, Turns, AllSettleAt, AllCanEnd};
 
 use crate::phases::run_cycle;
+use bit_exprs::forms::Bit;
 use cycle_model::put_inputs;
-use design_core::flat::Bit;
 use design_core::legal::Legal;
 use std::alloc::{AllocError, Global};
 use std::marker::Model;

@@ -1,7 +1,8 @@
 // The steps of the machine.
 
 ghost use Rattle.std.specs.Prelude.{◌≡◌, ◌<◌, ◌++◌, [], All, length, false, slice_set, OnOk};
-ghost use Rattle.design_core.specs.Exec.{exec, perform};
+ghost use Rattle.bit_exprs.specs.Updates.{perform};
+ghost use Rattle.design_core.specs.Exec.{exec};
 ghost use Rattle.design_core.specs.Bounds.{IsWithin};
 ghost use Rattle.design_core.specs.Legality.{process_at};
 ghost use Rattle.event_order.specs.States.{woken};
@@ -9,7 +10,8 @@ ghost use Rattle.event_order.specs.Code.{UpdatesBelow};
 
 use crate::execute::{execute, perform_each};
 use crate::wake::wake;
-use design_core::flat::{Bit, Design};
+use bit_exprs::forms::Bit;
+use design_core::flat::Design;
 use std::alloc::AllocError;
 
 /// Runs a process. The values before it are left in `before`.

@@ -1,52 +1,16 @@
 // What a change of values wakes.
 
 ghost use Rattle.std.specs.Prelude.{◌≡◌, ◌&&◌, length};
-ghost use Rattle.design_core.specs.Exec.{bit_at, xor, target_bits};
-ghost use Rattle.design_core.specs.Drive.{among, reads, always, needs};
+ghost use Rattle.bit_exprs.specs.Values.{bit_at};
+ghost use Rattle.design_core.specs.Exec.{xor};
+ghost use Rattle.design_core.specs.Drive.{always, needs};
 ghost use Rattle.design_core.specs.Settled.{is_clocked, reset_of, is_active};
 ghost use Rattle.event_order.specs.States.{some_below, wakes, raised, woken};
 ghost use Rattle.event_order.specs.Cycles.{starts, is_reset};
 
-use cycle_model::execute::named;
-use design_core::flat::{Bit, Expr, ProcKind, Process, Reset, Stmt, Target};
-
-/// Whether a bit is one of these.
-fn is_among(bits: &[Bit], bit: usize) -> bool
-    ensures { result ≡ among bits.now bit }
-{
-    for b in bits {
-        if *b as usize == bit {
-            return true;
-        }
-    }
-    false
-}
-
-/// Whether a bit is one of the target's.
-fn has_bit(target: &Target, bit: usize) -> bool
-    ensures { result ≡ among (target_bits target.now) bit }
-{
-    for part in target.parts.as_slice() {
-        if is_among(named(part), bit) {
-            return true;
-        }
-    }
-    false
-}
-
-/// Whether an expression reads a bit.
-fn expr_reads(expr: &Expr, bit: usize) -> bool
-    ensures { result ≡ reads expr.now bit }
-{
-    match expr {
-        Expr::Const(_) => false,
-        Expr::Read(bits) => is_among(bits.as_slice(), bit),
-        Expr::Unary { op: _, value } => expr_reads(value.get(), bit),
-        Expr::Binary { op: _, left, right } => {
-            expr_reads(left.get(), bit) || expr_reads(right.get(), bit)
-        }
-    }
-}
+use bit_exprs::forms::Bit;
+use bit_exprs::names::{is_certain, reads, target_reads};
+use design_core::flat::{ProcKind, Process, Reset, Stmt};
 
 /// Whether every path assigns a bit at once.
 fn body_always(body: &Stmt, bit: usize) -> bool
@@ -58,7 +22,7 @@ fn body_always(body: &Stmt, bit: usize) -> bool
             delayed,
             target,
             value: _,
-        } => !*delayed && has_bit(target, bit),
+        } => !*delayed && is_certain(target, bit),
         Stmt::Branch {
             site: _,
             cond: _,
@@ -84,16 +48,16 @@ fn body_needs(body: &Stmt, bit: usize) -> bool
         Stmt::Assign {
             site: _,
             delayed: _,
-            target: _,
+            target,
             value,
-        } => expr_reads(value, bit),
+        } => reads(value, bit) || target_reads(target, bit),
         Stmt::Branch {
             site: _,
             cond,
             yes,
             no,
         } => {
-            if expr_reads(cond, bit) {
+            if reads(cond, bit) {
                 return true;
             }
             if body_needs(yes.get(), bit) {

@@ -1,3 +1,1 @@
-pub mod Bodies
-pub mod WiresLegal
-pub mod RegistersLegal
+pub mod Legal

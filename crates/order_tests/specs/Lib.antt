@@ -1,1 +1,1 @@
-pub mod Designs
+pub mod Negations

@@ -3,8 +3,6 @@
 #![tactic(auto)]
 
 #[cfg(test)]
-mod parts;
+mod design;
 #[cfg(test)]
-mod registers;
-#[cfg(test)]
-mod wires;
+mod tests;

@@ -2,8 +2,9 @@ use Rattle.std.proofs.Common.{◌+◌, true, ap, sym, ◌∙◌, rules, set}
 use Rattle.std.proofs.lemmas.List.{length-set}
 use Rattle.design_core.specs.declared.flat.Stmt.{Stmt}
 use Rattle.design_core.specs.declared.flat.Stmt.TheFolds as folds
-use Rattle.design_core.specs.declared.flat.Expr.TheFolds as folds2
-use Rattle.design_core.specs.Exec.{Effect, exec, perform}
+use Rattle.bit_exprs.specs.declared.forms.Expr.TheFolds as folds2
+use Rattle.bit_exprs.specs.Updates.{perform}
+use Rattle.design_core.specs.Exec.{Effect, exec}
 use Rattle.cycle_model.specs.Flags.{flagged}
 use Rattle.cycle_model.proofs.Blocks.{Held, within_item, block_more, block_done, branch_within, branch_then, branch_else}
 use Rattle.cycle_model.proofs.execute.+execute.Goals as goal

@@ -1,5 +1,5 @@
 use Rattle.std.proofs.Common.{◌≡◌, ℕ, ◌<◌, false}
-use Rattle.design_core.specs.Exec.{bit_at}
+use Rattle.bit_exprs.specs.Values.{bit_at}
 use Rattle.cycle_model.proofs.phases.clear.Given as goal
 
 abbrev pub invariant-loop-mark : goal.invariant-loop-mark

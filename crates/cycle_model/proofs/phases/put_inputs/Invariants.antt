@@ -1,6 +1,6 @@
 use Rattle.std.proofs.Common.{◌≡◌, drop}
 use Rattle.std.specs.Prelude.{zip}
-use Rattle.design_core.specs.Exec.{perform}
+use Rattle.bit_exprs.specs.Updates.{perform}
 use Rattle.cycle_model.proofs.phases.put_inputs.Given as goal
 
 abbrev pub invariant-loop-k : goal.invariant-loop-k

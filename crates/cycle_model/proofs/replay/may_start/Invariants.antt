@@ -1,7 +1,7 @@
 use Rattle.std.proofs.Common.{◌≡◌, ◌<◌, ℕ, Bool, Some}
 use Rattle.std.specs.Prelude.{slice_get}
 use Rattle.design_core.specs.declared.flat.BitInfo.{BitInfo}
-use Rattle.design_core.specs.Exec.{bit_at}
+use Rattle.bit_exprs.specs.Values.{bit_at}
 use Rattle.cycle_model.proofs.replay.may_start.Given as goal
 
 abbrev pub invariant-loop-k : goal.invariant-loop-k

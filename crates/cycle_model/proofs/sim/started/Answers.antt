@@ -1,5 +1,5 @@
 use Rattle.std.proofs.Common.{◌≡◌, ◌∙◌, ap, sym, subst, length}
-use Rattle.design_core.specs.Exec.{perform}
+use Rattle.bit_exprs.specs.Updates.{perform}
 use Rattle.std.specs.Prelude.{zip}
 use Rattle.design_core.specs.Legality.{IsLegal}
 use Rattle.cycle_model.specs.Machine.{held_in}

@@ -2,7 +2,7 @@ use Rattle.std.proofs.Common.{◌≡◌, ap, sym, subst, ◌∙◌, rules}
 use Rattle.std.specs.Prelude.{OnOk}
 use Rattle.design_core.specs.declared.flat.Stmt.{Stmt}
 use Rattle.design_core.specs.declared.flat.Stmt.TheFolds as folds
-use Rattle.design_core.specs.declared.flat.Expr.TheFolds as folds2
+use Rattle.bit_exprs.specs.declared.forms.Expr.TheFolds as folds2
 use Rattle.event_order.proofs.Listing.{Laid, laid, laid_done, names_item, names_then, names_else, laid_then, laid_else}
 use Rattle.event_order.proofs.execute.+execute.Goals as goal
 

@@ -1,5 +1,5 @@
 use Rattle.std.proofs.Common.{◌≡◌, drop}
-use Rattle.design_core.specs.Exec.{perform}
+use Rattle.bit_exprs.specs.Updates.{perform}
 use Rattle.event_order.proofs.execute.perform_each.Given as goal
 
 abbrev pub invariant-loop-bit : goal.invariant-loop-bit

@@ -1,6 +1,6 @@
 use Rattle.std.proofs.Common.{◌≡◌, ◌∙◌, ap, sym, subst, length, replicate, true, false, rules}
 use Rattle.std.specs.Prelude.{zip}
-use Rattle.design_core.specs.Exec.{perform}
+use Rattle.bit_exprs.specs.Updates.{perform}
 use Rattle.cycle_model.proofs.Whole.{put_back}
 use Rattle.design_core.specs.Legality.{IsLegal}
 use Rattle.event_order.specs.Registers.{registers_in}

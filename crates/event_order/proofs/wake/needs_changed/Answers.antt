@@ -1,5 +1,6 @@
 use Rattle.std.proofs.Common.{◌&&◌, ◌∙◌, sym}
-use Rattle.design_core.specs.Exec.{bit_at, xor}
+use Rattle.bit_exprs.specs.Values.{bit_at}
+use Rattle.design_core.specs.Exec.{xor}
 use Rattle.design_core.specs.Drive.{needs}
 use Rattle.event_order.proofs.Waking.{some_below_at, changed_needed}
 use Rattle.event_order.proofs.wake.needs_changed.Goals as goal

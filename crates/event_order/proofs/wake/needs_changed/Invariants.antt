@@ -1,5 +1,6 @@
 use Rattle.std.proofs.Common.{◌≡◌, ◌&&◌, false}
-use Rattle.design_core.specs.Exec.{bit_at, xor}
+use Rattle.bit_exprs.specs.Values.{bit_at}
+use Rattle.design_core.specs.Exec.{xor}
 use Rattle.design_core.specs.Drive.{needs}
 use Rattle.event_order.specs.States.{some_below}
 use Rattle.event_order.proofs.wake.needs_changed.Given as goal
