@@ -1,41 +1,41 @@
 -- What the literals of bodies are worth: what executing the bodies gives.
-use Rattle.std.proofs.Common.{◌≡◌, ℕ, ◌+◌, Bool, true, false, not, ◌&&◌, cond, List, [], ◌∷◌, ◌++◌, length, All, refl, sym, ap, subst, ◌∙◌, append_assoc}
+use Rattle.std.proofs.Common.{◌≡◌, ℕ, ◌+◌, Bool, true, false, not, ◌&&◌, nat_eq, cond, List, [], ◌∷◌, ◌++◌, length, All, refl, sym, ap, subst, ◌∙◌, append_assoc}
 use Rattle.std.specs.Prelude.{Option, Some, None}
 use Rattle.std.proofs.lemmas.List.{append-nil}
 use Rattle.std.proofs.lemmas.List.Elements.{All-head, All-tail, All-append, All-cons, All-nil}
-use Rattle.design_core.specs.declared.flat.Expr.{Expr}
-use Rattle.design_core.specs.declared.flat.Target.{Target}
+use Rattle.bit_exprs.specs.declared.forms.Expr.{Expr}
+use Rattle.bit_exprs.specs.declared.forms.Target.{Target}
+use Rattle.bit_exprs.specs.Values.{value_of}
+use Rattle.bit_exprs.specs.Updates.{updates_of, perform}
+use Rattle.bit_exprs.proofs.Performing.{perform-append}
 use Rattle.design_core.specs.declared.flat.Stmt.{Stmt, Row_of-Stmt, end_of-Stmt, more_of-Stmt}
 use Rattle.design_core.specs.declared.flat.Stmt.TheVariants.{Assign, Branch', Block'}
-use Rattle.word_core.specs.Words.{any}
-use Rattle.design_core.specs.Exec.{Effect, expr_value, width_of, target_bits, written, perform, listed, exec, exec_all}
+use Rattle.design_core.specs.Exec.{Effect, listed, exec, exec_all}
 use Rattle.design_core.specs.Exec as effects
 use Rattle.design_core.specs.Bounds.{IsWithin, AreWithin, AssignsBy, AssignBy}
 use Rattle.design_core.proofs.Effects.{waits}
-use Rattle.design_core.proofs.Updates.{perform-append}
-use Rattle.aig_core.specs.Graph.{Graph, leaf_count, IsLiteral, IsWellFormed, negation, value_of, and_of, both, Extends, Gives}
-use Rattle.aig_core.proofs.Values.{Extends-refl, Extends-trans, value_of-Extends, value_of-negation, IsLiteral-negation, IsLiteral-Extends, leaf_count-Extends}
-use Rattle.aig_core.proofs.AndLaw.{and_gives}
+use Rattle.aig_core.specs.Graph.{Graph, leaf_count, IsLiteral, IsWellFormed, Extends, value_of as literal_value}
+use Rattle.aig_core.proofs.Values.{Extends-refl, Extends-trans, value_of-Extends, IsLiteral-Extends, leaf_count-Extends}
 use Rattle.word_blast.specs.Words.{spelled}
-use Rattle.word_blast.proofs.BitLaws.{kept_value, kept_literal, kept_leaves}
+use Rattle.plain_blast.specs.declared.bodies.Fork.{Fork}
 use Rattle.plain_blast.specs.declared.bodies.Passed.{Passed}
-use Rattle.plain_blast.specs.Plain.{Wiring, wiring, past, past_any, word_of, test_of, choose_of, run_of, run_all}
+use Rattle.plain_blast.specs.Plain.{Wiring, wiring, past, past_any, assign_of, fork_of, choose_of, run_of, run_all}
 use Rattle.plain_blast.specs.Exist.{Exist, PathsExist}
 use Rattle.plain_blast.proofs.Existing.{all_kept, paths_kept}
-use Rattle.plain_blast.proofs.Written.{length-put, put_exist, put_spell}
-use Rattle.plain_blast.proofs.Literals.{spelled_kept, Spelling, word_gives, test_gives, choose_gives, Chosen}
+use Rattle.plain_blast.proofs.Literals.{spelled_kept, same_leaves, choose_gives, Chosen}
+use Rattle.plain_blast.proofs.StepLaws.{Assigns, assign_gives, Forks, fork_gives}
 
 -- ---- the sites whose path literals are 1
 
 abbrev pub passed_on : Graph → List Bool → List Passed → List ℕ
 passed_on g leaves [] = []
-passed_on g leaves (p ∷ ps) = cond (value_of g leaves p.path) (p.site ∷ []) [] ++ passed_on g leaves ps
+passed_on g leaves (p ∷ ps) = cond (literal_value g leaves p.path) (p.site ∷ []) [] ++ passed_on g leaves ps
 
 pub passed_on-append : (g : Graph) (leaves : List Bool) (ps qs : List Passed) → passed_on g leaves (ps ++ qs) ≡ passed_on g leaves ps ++ passed_on g leaves qs
 passed_on-append g leaves [] qs = refl
 passed_on-append g leaves (p ∷ ps) qs =
-    ap (λ r. cond (value_of g leaves p.path) (p.site ∷ []) [] ++ r) (passed_on-append g leaves ps qs)
-    ∙ sym (append_assoc (cond (value_of g leaves p.path) (p.site ∷ []) []) (passed_on g leaves ps) (passed_on g leaves qs))
+    ap (λ r. cond (literal_value g leaves p.path) (p.site ∷ []) [] ++ r) (passed_on-append g leaves ps qs)
+    ∙ sym (append_assoc (cond (literal_value g leaves p.path) (p.site ∷ []) []) (passed_on g leaves ps) (passed_on g leaves qs))
 
 pub passed_on_kept : (g h : Graph) (leaves : List Bool) (ps : List Passed) → Extends g h → length leaves ≡ leaf_count g → PathsExist g ps → passed_on h leaves ps ≡ passed_on g leaves ps
 passed_on_kept g h leaves [] e len all = refl
@@ -59,7 +59,7 @@ marks_all all clocked sv tv = (exec_all all (cond clocked sv tv)).marks
 
 module _ (site : Option ℕ) (target : Target) (value : Expr) where
   after_assign : (clocked delayed : Bool) (sv tv : List Bool) → delayed ≡ clocked →
-      after (Assign site delayed target value) clocked sv tv ≡ perform (written (target_bits target) (expr_value value (cond clocked sv tv))) tv
+      after (Assign site delayed target value) clocked sv tv ≡ (let v = cond clocked sv tv in perform (updates_of target (value_of value v) v) tv)
   after_assign true true sv tv e = refl
   after_assign false false sv tv e = refl
   after_assign true false sv tv e = cc
@@ -69,12 +69,13 @@ module _ (site : Option ℕ) (target : Target) (value : Expr) where
   marks_assign clocked true sv tv = append-nil (listed site)
   marks_assign clocked false sv tv = append-nil (listed site)
 
-marks_cond : (c : Bool) (x y : Effect) → (cond c x y).marks ≡ cond c x.marks y.marks
+-- the second arm is taken where z is true
+marks_cond : (z : Bool) (x y : Effect) → (cond z y x).marks ≡ cond z y.marks x.marks
 marks_cond true x y = refl
 marks_cond false x y = refl
 
-after_cond : (clocked c : Bool) (x y : Effect) (tv : List Bool) →
-    cond clocked (perform (cond c x y).updates tv) (cond c x y).values ≡ cond c (cond clocked (perform x.updates tv) x.values) (cond clocked (perform y.updates tv) y.values)
+after_cond : (clocked z : Bool) (x y : Effect) (tv : List Bool) →
+    cond clocked (perform (cond z y x).updates tv) (cond z y x).values ≡ cond (not z) (cond clocked (perform x.updates tv) x.values) (cond clocked (perform y.updates tv) y.values)
 after_cond clocked true x y tv = refl
 after_cond clocked false x y tv = refl
 
@@ -101,7 +102,7 @@ pub record Reads (clocked : Bool) (settled : List ℕ) (path : ℕ) (g : Graph) 
   pub settled_exist : All (IsLiteral g) settled
   pub settled_spell : spelled g leaves settled ≡ sv
   pub path_exists : IsLiteral g path
-  pub path_is : value_of g leaves path ≡ on
+  pub path_is : literal_value g leaves path ≡ on
 
 -- the targets spell tv, and the sites passed are ps
 pub record Spells (w : Wiring) (leaves : List Bool) (n : ℕ) (tv : List Bool) (ps : List ℕ) : Type 0 where
@@ -128,7 +129,7 @@ reads_kept clocked settled path g h leaves n sv on e len r = record {
 
 -- the same under another path
 under : (clocked : Bool) (settled : List ℕ) (path path' : ℕ) (g : Graph) (leaves : List Bool) (n : ℕ) (sv : List Bool) (on on' : Bool) →
-    Reads clocked settled path g leaves n sv on → IsLiteral g path' → value_of g leaves path' ≡ on' → Reads clocked settled path' g leaves n sv on'
+    Reads clocked settled path g leaves n sv on → IsLiteral g path' → literal_value g leaves path' ≡ on' → Reads clocked settled path' g leaves n sv on'
 under clocked settled path path' g leaves n sv on on' r l v = record {
   settled_long = r.settled_long;
   settled_exist = r.settled_exist;
@@ -139,7 +140,7 @@ under clocked settled path path' g leaves n sv on on' r l v = record {
 
 -- a graph that has grown, and a site that is passed
 past_spells : (w : Wiring) (h : Graph) (leaves : List Bool) (n : ℕ) (tv : List Bool) (ps : List ℕ) (site path : ℕ) (on : Bool) →
-    Extends w.graph h → IsWellFormed h → IsLiteral h path → value_of h leaves path ≡ on → Spells w leaves n tv ps →
+    Extends w.graph h → IsWellFormed h → IsLiteral h path → literal_value h leaves path ≡ on → Spells w leaves n tv ps →
     Spells (wiring h w.targets (past site path w.paths)) leaves n tv (ps ++ cond on (site ∷ []) [])
 past_spells w h leaves n tv ps site path on e well l v s = record {
   well_formed = well;
@@ -152,7 +153,7 @@ past_spells w h leaves n tv ps site path on e well l v s = record {
   };
   targets_spell = spelled_kept w.graph h leaves w.targets e s.leaves_long s.exist.targets_exist ∙ s.targets_spell;
   passed = passed_on-append h leaves w.paths (record { site = site; path = path } ∷ [])
-      ∙ (λ j. (passed_on_kept w.graph h leaves w.paths e s.leaves_long s.exist.paths_exist ∙ s.passed) j ++ (append-nil (cond (value_of h leaves path) (site ∷ []) []) ∙ ap (λ b. cond b (site ∷ []) []) v) j);
+      ∙ (λ j. (passed_on_kept w.graph h leaves w.paths e s.leaves_long s.exist.paths_exist ∙ s.passed) j ++ (append-nil (cond (literal_value h leaves path) (site ∷ []) []) ∙ ap (λ b. cond b (site ∷ []) []) v) j);
 }
 
 -- the literals that are read
@@ -180,7 +181,7 @@ module _ (clocked : Bool) (settled : List ℕ) (path : ℕ) (w : Wiring) (leaves
       by false = s.targets_spell
 
 past_any_spells : (w : Wiring) (h : Graph) (leaves : List Bool) (n : ℕ) (tv : List Bool) (ps : List ℕ) (site : Option ℕ) (path : ℕ) (on : Bool) →
-    Extends w.graph h → IsWellFormed h → IsLiteral h path → value_of h leaves path ≡ on → Spells w leaves n tv ps →
+    Extends w.graph h → IsWellFormed h → IsLiteral h path → literal_value h leaves path ≡ on → Spells w leaves n tv ps →
     Spells (wiring h w.targets (past_any site path w.paths)) leaves n tv (ps ++ cond on (listed site) [])
 past_any_spells w h leaves n tv ps (Some site) path on e well l v s = past_spells w h leaves n tv ps site path on e well l v s
 past_any_spells w h leaves n tv ps None path on e well l v s = record {
@@ -205,11 +206,11 @@ nothing_more true ps = sym (append-nil ps)
 nothing_more false ps = sym (append-nil ps)
 
 -- the sites that a branch passes
-branch_passes : (on c : Bool) (ps a b : List ℕ) (x y : ℕ) →
-    (((ps ++ cond (on && c) (x ∷ []) []) ++ cond (on && c) a []) ++ cond (on && not c) (y ∷ []) []) ++ cond (on && not c) b [] ≡ ps ++ cond on (cond c (x ∷ a) (y ∷ b)) []
-branch_passes true true ps a b x y = append-nil _ ∙ append-nil _ ∙ append_assoc ps (x ∷ []) a
-branch_passes true false ps a b x y = (λ j. (append-nil (append-nil ps j) j ++ y ∷ []) ++ b) ∙ append_assoc ps (y ∷ []) b
-branch_passes false c ps a b x y = append-nil _ ∙ append-nil _ ∙ append-nil _
+branch_passes : (on z : Bool) (ps a b : List ℕ) (x y : ℕ) →
+    (((ps ++ cond (on && not z) (x ∷ []) []) ++ cond (on && not z) a []) ++ cond (on && z) (y ∷ []) []) ++ cond (on && z) b [] ≡ ps ++ cond on (cond z (y ∷ b) (x ∷ a)) []
+branch_passes true false ps a b x y = append-nil _ ∙ append-nil _ ∙ append_assoc ps (x ∷ []) a
+branch_passes true true ps a b x y = (λ j. (append-nil (append-nil ps j) j ++ y ∷ []) ++ b) ∙ append_assoc ps (y ∷ []) b
+branch_passes false z ps a b x y = append-nil _ ∙ append-nil _ ∙ append-nil _
 
 -- ---- the induction over bodies
 
@@ -219,88 +220,83 @@ mutual
       Runs w (run_of s clocked settled path w) leaves n (after s clocked sv tv) (ps ++ cond on (marks_of s clocked sv tv) [])
   run_means (Assign site delayed target value) clocked settled path w leaves n sites sv tv on ps within by r s =
       let bits : List ℕ = cond clocked settled w.targets in
-      let x : Graph × List ℕ = word_of value w.graph bits in
-      let lit : Spelling w.graph x.0 x.1 (width_of value) (λ ls. expr_value value (spelled w.graph ls bits)) =
-      word_gives value w.graph bits s.well_formed (read_exist clocked settled path w leaves n sv tv on ps r s) (rw (read_long clocked settled path w leaves n sv tv on ps r s) within.4) in
-      let r' = reads_kept clocked settled path w.graph x.0 leaves n sv on lit.extends s.leaves_long r in
-      let t = past_any_spells w x.0 leaves n tv ps site path on lit.extends lit.well_formed r'.path_exists r'.path_is s in
-      let value_is : spelled x.0 leaves x.1 ≡ expr_value value (cond clocked sv tv) = lit.value leaves s.leaves_long ∙ ap (expr_value value) (read_spelled clocked settled path w leaves n sv tv on ps r s) in
+      let wide = read_long clocked settled path w leaves n sv tv on ps r s in
+      let x : Graph × List ℕ = assign_of target value bits w.graph w.targets in
+      let a : Assigns w.graph x.0 w.targets x.1 (λ ls. perform (updates_of target (value_of value (spelled w.graph ls bits)) (spelled w.graph ls bits)) (spelled w.graph ls w.targets)) =
+      assign_gives target value bits w.graph w.targets s.well_formed (read_exist clocked settled path w leaves n sv tv on ps r s) s.exist.targets_exist (rw wide within.1) within.2 (rw wide within.3) in
+      let r' = reads_kept clocked settled path w.graph x.0 leaves n sv on a.extends s.leaves_long r in
+      let t = past_any_spells w x.0 leaves n tv ps site path on a.extends a.well_formed r'.path_exists r'.path_is s in
       record {
-        extends = lit.extends;
+        extends = a.extends;
         spells = record {
           well_formed = t.well_formed;
           leaves_long = t.leaves_long;
-          targets_long = length-put (target_bits target) x.1 w.targets ∙ s.targets_long;
-          exist = record { targets_exist = put_exist x.0 (target_bits target) x.1 w.targets lit.exist t.exist.targets_exist; paths_exist = t.exist.paths_exist };
-          targets_spell = put_spell x.0 leaves (target_bits target) x.1 w.targets ∙ (λ j. perform (written (target_bits target) (value_is j)) (t.targets_spell j)) ∙ sym (after_assign site target value clocked delayed sv tv by);
+          targets_long = a.long ∙ s.targets_long;
+          exist = record { targets_exist = a.exist; paths_exist = t.exist.paths_exist };
+          targets_spell = a.value leaves s.leaves_long
+              ∙ (λ j. let v = read_spelled clocked settled path w leaves n sv tv on ps r s j in perform (updates_of target (value_of value v) v) (s.targets_spell j))
+              ∙ sym (after_assign site target value clocked delayed sv tv by);
           passed = t.passed ∙ ap (λ m. ps ++ cond on m []) (sym (marks_assign site target value clocked delayed sv tv));
         };
       }
   run_means (Branch' site test p a q b) clocked settled path w leaves n sites sv tv on ps within by r s =
       let bits : List ℕ = cond clocked settled w.targets in
-      let c : Graph × ℕ = test_of test w.graph bits in
-      let lit : Gives w.graph c.0 c.1 (λ ls. any (expr_value test (spelled w.graph ls bits))) =
-      test_gives test w.graph bits s.well_formed (read_exist clocked settled path w leaves n sv tv on ps r s) (rw (read_long clocked settled path w leaves n sv tv on ps r s) within.1) in
-      let cv : Bool = any (expr_value test (cond clocked sv tv)) in
-      let c_is : value_of c.0 leaves c.1 ≡ cv = lit.value leaves s.leaves_long ∙ ap (λ v. any (expr_value test v)) (read_spelled clocked settled path w leaves n sv tv on ps r s) in
-      let lc = kept_leaves lit leaves s.leaves_long in
-      let rc = reads_kept clocked settled path w.graph c.0 leaves n sv on lit.extends s.leaves_long r in
-      let t : Graph × ℕ = and_of c.0 path c.1 in
-      let then_gives : Gives c.0 t.0 t.1 (both c.0 path c.1) = and_gives c.0 path c.1 lit.well_formed rc.path_exists lit.literal in
-      let lt = kept_leaves then_gives leaves lc in
-      let rt = reads_kept clocked settled path c.0 t.0 leaves n sv on then_gives.extends lc rc in
-      let ct : IsLiteral t.0 c.1 = kept_literal then_gives c.1 lit.literal in
-      let e : Graph × ℕ = and_of t.0 path (negation c.1) in
-      let else_gives : Gives t.0 e.0 e.1 (both t.0 path (negation c.1)) = and_gives t.0 path (negation c.1) then_gives.well_formed rt.path_exists (IsLiteral-negation t.0 c.1 ct) in
-      let le = kept_leaves else_gives leaves lt in
-      let re = reads_kept clocked settled path t.0 e.0 leaves n sv on else_gives.extends lt rt in
-      let up : Extends w.graph e.0 = Extends-trans w.graph t.0 e.0 (Extends-trans w.graph c.0 t.0 lit.extends then_gives.extends) else_gives.extends in
-      let then_is : value_of e.0 leaves t.1 ≡ (on && cv) = kept_value else_gives t.1 then_gives.literal leaves lt ∙ then_gives.value leaves lc ∙ (λ j. rc.path_is j && c_is j) in
-      let else_is : value_of e.0 leaves e.1 ≡ (on && not cv) = else_gives.value leaves lt ∙ (λ j. rt.path_is j && (value_of-negation t.0 leaves c.1 ∙ ap not (kept_value then_gives c.1 lit.literal leaves lc ∙ c_is)) j) in
-      let then_exists : IsLiteral e.0 t.1 = kept_literal else_gives t.1 then_gives.literal in
-      let w1 : Wiring = wiring e.0 w.targets (past site t.1 w.paths) in
-      let s1 = past_spells w e.0 leaves n tv ps site t.1 (on && cv) up else_gives.well_formed then_exists then_is s in
-      let x : Wiring = run_all a clocked settled t.1 w1 in
-      let ran_a = run_all_means a clocked settled t.1 w1 leaves n sites sv tv (on && cv) (ps ++ cond (on && cv) (site ∷ []) []) within.2 by.0 (under clocked settled path t.1 e.0 leaves n sv on (on && cv) re then_exists then_is) s1 in
-      let rx = reads_kept clocked settled path e.0 x.graph leaves n sv on ran_a.extends le re in
-      let else_exists : IsLiteral x.graph e.1 = IsLiteral-Extends e.0 x.graph e.1 ran_a.extends else_gives.literal in
-      let else_is_x : value_of x.graph leaves e.1 ≡ (on && not cv) = value_of-Extends e.0 x.graph leaves e.1 ran_a.extends le else_gives.literal ∙ else_is in
+      let h : Graph = (fork_of test path bits w.graph).0 in
+      let f : Fork = (fork_of test path bits w.graph).1 in
+      let z : Bool = nat_eq (value_of test (cond clocked sv tv)) 0 in
+      let fork : Forks w.graph h path f (λ ls. nat_eq (value_of test (spelled w.graph ls bits)) 0) =
+      fork_gives test path bits w.graph s.well_formed (read_exist clocked settled path w leaves n sv tv on ps r s) r.path_exists (rw (read_long clocked settled path w leaves n sv tv on ps r s) within.1) in
+      let z_is : nat_eq (value_of test (spelled w.graph leaves bits)) 0 ≡ z = ap (λ v. nat_eq (value_of test v) 0) (read_spelled clocked settled path w leaves n sv tv on ps r s) in
+      let test_is : literal_value h leaves f.test ≡ not z = fork.test_is leaves s.leaves_long ∙ ap not z_is in
+      let then_is : literal_value h leaves f.then_path ≡ (on && not z) = fork.then_is leaves s.leaves_long ∙ (λ j. r.path_is j && not (z_is j)) in
+      let else_is : literal_value h leaves f.else_path ≡ (on && z) = fork.else_is leaves s.leaves_long ∙ (λ j. r.path_is j && z_is j) in
+      let le = same_leaves w.graph h leaves fork.extends s.leaves_long in
+      let re = reads_kept clocked settled path w.graph h leaves n sv on fork.extends s.leaves_long r in
+      let w1 : Wiring = wiring h w.targets (past site f.then_path w.paths) in
+      let s1 = past_spells w h leaves n tv ps site f.then_path (on && not z) fork.extends fork.well_formed fork.then_exists then_is s in
+      let x : Wiring = run_all a clocked settled f.then_path w1 in
+      let ran_a = run_all_means a clocked settled f.then_path w1 leaves n sites sv tv (on && not z) (ps ++ cond (on && not z) (site ∷ []) []) within.2 by.0
+      (under clocked settled path f.then_path h leaves n sv on (on && not z) re fork.then_exists then_is) s1 in
+      let rx = reads_kept clocked settled path h x.graph leaves n sv on ran_a.extends le re in
+      let else_exists : IsLiteral x.graph f.else_path = IsLiteral-Extends h x.graph f.else_path ran_a.extends fork.else_exists in
+      let else_is_x : literal_value x.graph leaves f.else_path ≡ (on && z) = value_of-Extends h x.graph leaves f.else_path ran_a.extends le fork.else_exists ∙ else_is in
       let lx = ran_a.spells.leaves_long in
-      let psx : List ℕ = (ps ++ cond (on && cv) (site ∷ []) []) ++ cond (on && cv) (marks_all a clocked sv tv) [] in
+      let psx : List ℕ = (ps ++ cond (on && not z) (site ∷ []) []) ++ cond (on && not z) (marks_all a clocked sv tv) [] in
       let mid : Spells (wiring x.graph w.targets x.paths) leaves n tv psx = record {
         well_formed = ran_a.spells.well_formed;
         leaves_long = lx;
         targets_long = s.targets_long;
-        exist = record { targets_exist = all_kept e.0 x.graph w.targets ran_a.extends s1.exist.targets_exist; paths_exist = ran_a.spells.exist.paths_exist };
-        targets_spell = spelled_kept e.0 x.graph leaves w.targets ran_a.extends le s1.exist.targets_exist ∙ s1.targets_spell;
+        exist = record { targets_exist = all_kept h x.graph w.targets ran_a.extends s1.exist.targets_exist; paths_exist = ran_a.spells.exist.paths_exist };
+        targets_spell = spelled_kept h x.graph leaves w.targets ran_a.extends le s1.exist.targets_exist ∙ s1.targets_spell;
         passed = ran_a.spells.passed;
       } in
-      let w2 : Wiring = wiring x.graph w.targets (past (site + 1) e.1 x.paths) in
-      let s2 = past_spells (wiring x.graph w.targets x.paths) x.graph leaves n tv psx (site + 1) e.1 (on && not cv) (Extends-refl x.graph) ran_a.spells.well_formed else_exists else_is_x mid in
-      let y : Wiring = run_all b clocked settled e.1 w2 in
-      let ran_b = run_all_means b clocked settled e.1 w2 leaves n sites sv tv (on && not cv) (psx ++ cond (on && not cv) ((site + 1) ∷ []) []) within.3 by.1 (under clocked settled path e.1 x.graph leaves n sv on (on && not cv) rx else_exists else_is_x) s2 in
+      let w2 : Wiring = wiring x.graph w.targets (past (site + 1) f.else_path x.paths) in
+      let s2 = past_spells (wiring x.graph w.targets x.paths) x.graph leaves n tv psx (site + 1) f.else_path (on && z) (Extends-refl x.graph) ran_a.spells.well_formed else_exists else_is_x mid in
+      let y : Wiring = run_all b clocked settled f.else_path w2 in
+      let ran_b = run_all_means b clocked settled f.else_path w2 leaves n sites sv tv (on && z) (psx ++ cond (on && z) ((site + 1) ∷ []) []) within.3 by.1
+      (under clocked settled path f.else_path x.graph leaves n sv on (on && z) rx else_exists else_is_x) s2 in
       let ly = ran_b.spells.leaves_long in
-      let late : Extends c.0 y.graph = Extends-trans c.0 x.graph y.graph (Extends-trans c.0 e.0 x.graph (Extends-trans c.0 t.0 e.0 then_gives.extends else_gives.extends) ran_a.extends) ran_b.extends in
-      let c_is_y : value_of y.graph leaves c.1 ≡ cv = value_of-Extends c.0 y.graph leaves c.1 late lc lit.literal ∙ c_is in
+      let late : Extends h y.graph = Extends-trans h x.graph y.graph ran_a.extends ran_b.extends in
+      let test_is_y : literal_value y.graph leaves f.test ≡ not z = value_of-Extends h y.graph leaves f.test late le fork.test_exists ∙ test_is in
       let then_effect : Effect = effects.past (site ∷ []) (exec_all a (cond clocked sv tv)) in
       let else_effect : Effect = effects.past ((site + 1) ∷ []) (exec_all b (cond clocked sv tv)) in
-      let m : Graph × List ℕ = choose_of y.graph c.1 x.targets y.targets in
-      let ch : Chosen y.graph m.0 c.1 x.targets y.targets m.1 =
-      choose_gives y.graph c.1 x.targets y.targets ran_b.spells.well_formed (IsLiteral-Extends c.0 y.graph c.1 late lit.literal) (all_kept x.graph y.graph x.targets ran_b.extends ran_a.spells.exist.targets_exist)
+      let m : Graph × List ℕ = choose_of y.graph f.test x.targets y.targets in
+      let ch : Chosen y.graph m.0 f.test x.targets y.targets m.1 =
+      choose_gives y.graph f.test x.targets y.targets ran_b.spells.well_formed (IsLiteral-Extends h y.graph f.test late fork.test_exists) (all_kept x.graph y.graph x.targets ran_b.extends ran_a.spells.exist.targets_exist)
       ran_b.spells.exist.targets_exist (ran_b.spells.targets_long ∙ sym ran_a.spells.targets_long) in
       record {
-        extends = Extends-trans w.graph y.graph m.0 (Extends-trans w.graph c.0 y.graph lit.extends late) ch.extends;
+        extends = Extends-trans w.graph y.graph m.0 (Extends-trans w.graph h y.graph fork.extends late) ch.extends;
         spells = record {
           well_formed = ch.well_formed;
           leaves_long = ly ∙ sym (leaf_count-Extends y.graph m.0 ch.extends);
           targets_long = ch.long ∙ ran_a.spells.targets_long;
           exist = record { targets_exist = ch.exist; paths_exist = paths_kept y.graph m.0 y.paths ch.extends ran_b.spells.exist.paths_exist };
           targets_spell = ch.value leaves ly
-              ∙ (λ j. cond (c_is_y j) ((spelled_kept x.graph y.graph leaves x.targets ran_b.extends lx ran_a.spells.exist.targets_exist ∙ ran_a.spells.targets_spell) j) (ran_b.spells.targets_spell j))
-              ∙ sym (after_cond clocked cv then_effect else_effect tv);
+              ∙ (λ j. cond (test_is_y j) ((spelled_kept x.graph y.graph leaves x.targets ran_b.extends lx ran_a.spells.exist.targets_exist ∙ ran_a.spells.targets_spell) j) (ran_b.spells.targets_spell j))
+              ∙ sym (after_cond clocked z then_effect else_effect tv);
           passed = passed_on_kept y.graph m.0 leaves y.paths ch.extends ly ran_b.spells.exist.paths_exist ∙ ran_b.spells.passed
-              ∙ branch_passes on cv ps (marks_all a clocked sv tv) (marks_all b clocked sv tv) site (site + 1)
-              ∙ ap (λ ms. ps ++ cond on ms []) (sym (marks_cond cv then_effect else_effect));
+              ∙ branch_passes on z ps (marks_all a clocked sv tv) (marks_all b clocked sv tv) site (site + 1)
+              ∙ ap (λ ms. ps ++ cond on ms []) (sym (marks_cond z then_effect else_effect));
         };
       }
   run_means (Block' shape all) clocked settled path w leaves n sites sv tv on ps within by r s = run_all_means all clocked settled path w leaves n sites sv tv on ps within by r s

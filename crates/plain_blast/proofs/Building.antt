@@ -10,7 +10,8 @@ use Rattle.aig_core.specs.Graph.{Graph, IsLiteral, Extends}
 use Rattle.bit_system.specs.declared.system.StateInfo.{StateInfo}
 use Rattle.bit_system.specs.Machine.{Machine}
 use Rattle.plain_blast.specs.declared.bodies.Passed.{Passed}
-use Rattle.plain_blast.specs.Plain.{literal_at, state_of, first_graph, first_literals, process_of, hits_of, plain_of, wiring}
+use Rattle.expr_blast.specs.Circuits.{literal_at}
+use Rattle.plain_blast.specs.Plain.{state_of, first_graph, first_literals, process_of, hits_of, plain_of, wiring}
 use Rattle.plain_blast.proofs.Existing.{all_kept, picked_exist}
 
 -- a body of the order, as the code finds it

@@ -5,10 +5,11 @@ use Rattle.std.proofs.lemmas.List.{at_drop_more, drop_all, set_at, get_or-append
 use Rattle.std.proofs.lemmas.List.Elements.{All-head, All-tail}
 use Rattle.std.proofs.lemmas.Bool.{cases_eq, eq-eqb, ne_eqb}
 use Rattle.design_core.proofs.Truth.{both_false}
-use Rattle.design_core.specs.Drive.{among}
+use Rattle.bit_exprs.specs.Named.{among}
 use Rattle.aig_core.specs.Graph.{Graph}
 use Rattle.word_blast.specs.Bits.{mux_of}
-use Rattle.plain_blast.specs.Plain.{literal_at, choose_of}
+use Rattle.expr_blast.specs.Circuits.{literal_at}
+use Rattle.plain_blast.specs.Plain.{choose_of}
 use Rattle.plain_blast.specs.Choice.{choose_at}
 
 -- no gate is made between a literal and itself
@@ -21,11 +22,6 @@ choose_same g c [] = refl
 choose_same g c (x ∷ xs) =
     ap (λ (p : Graph × ℕ). let q = choose_of p.0 c xs xs in (q.0, p.1 ∷ q.1)) (mux_same g c x x refl)
     ∙ ap (λ (q : Graph × List ℕ). (q.0, x ∷ q.1)) (choose_same g c xs)
-
-pub length-choose : (g : Graph) (c : ℕ) (xs ys : List ℕ) → length (choose_of g c xs ys).1 ≡ length xs
-length-choose g c [] ys = refl
-length-choose g c (x ∷ xs) [] = refl
-length-choose g c (x ∷ xs) (y ∷ ys) = ap suc (length-choose (mux_of g c x y).0 c xs ys)
 
 -- where the two are alike, they are chosen
 pub chosen_same : (g : Graph) (c : ℕ) (xs ys : List ℕ) (b : ℕ) → get_or xs b 0 ≡ get_or ys b 0 → get_or (choose_of g c xs ys).1 b 0 ≡ get_or xs b 0

@@ -1,16 +1,23 @@
 -- The targets of a body, as the code collects them.
-use Rattle.std.proofs.Common.{◌≡◌, ℕ, ◌<◌, ◌≤◌, List, ◌++◌, length, take, All, append_assoc, sym, ap, ◌∙◌}
+use Rattle.std.proofs.Common.{◌≡◌, ℕ, ◌<◌, ◌≤◌, List, [], ◌∷◌, ◌++◌, length, take, map, All, append_assoc, sym, ap, subst, ◌∙◌}
 use Rattle.std.specs.Prelude.{flat_map}
+use Rattle.std.specs.List.Sorted.{IsStrictlyIncreasing}
 use Rattle.std.proofs.lemmas.List.{take_all, get_or_default}
-use Rattle.std.proofs.lemmas.List.Elements.{All-append}
-use Rattle.design_core.specs.declared.flat.Expr.{Expr}
+use Rattle.std.proofs.lemmas.List.Elements.{All-append, All-nil, All-head, All-tail}
+use Rattle.bit_exprs.specs.declared.forms.Expr.{Expr}
 use Rattle.design_core.specs.declared.flat.Stmt.{Stmt, Branch, Block, Row_of-Stmt, end_of-Stmt, more_of-Stmt}
 use Rattle.design_core.specs.declared.flat.Stmt.TheVariants.{Assign, Branch', Block'}
-use Rattle.design_core.specs.Drive.{among}
+use Rattle.bit_exprs.specs.declared.forms.Part.{Part}
+use Rattle.bit_exprs.specs.declared.forms.Part.TheVariants as parts
+use Rattle.bit_exprs.specs.Named.{among, part_bits}
+use Rattle.bit_exprs.specs.Formed.{PartFormed}
 use Rattle.design_core.specs.Bounds.{IsWithin, AreWithin}
 use Rattle.design_core.proofs.ResetLaws.{all_in}
-use Rattle.std.proofs.lemmas.List.Elements.{All-nil}
+use Rattle.aig_core.specs.Graph.{Graph, IsLiteral}
+use Rattle.expr_blast.specs.Circuits.{literal_at}
 use Rattle.plain_blast.specs.Assigned.{targets_of, all_targets}
+use Rattle.plain_blast.specs.Choice.{IsSaved}
+use Rattle.plain_blast.proofs.Existing.{picked_exist}
 use Rattle.plain_blast.proofs.Forms.{targets-Branch, targets-Block}
 use Rattle.plain_blast.proofs.Ordering.{among-Contains, Contains-among}
 
@@ -27,9 +34,19 @@ block_collected body all items i old new is listed done collected =
 
 -- ---- bounds
 
+part_below : (p : Part) (n : ℕ) → PartFormed p n → All (λ b. b < n) (part_bits p)
+part_below (parts.Bits bits) n h = h.1
+part_below (parts.Select vector window index) n h = h.0.1
+part_below (parts.Outside count) n h = All-nil (λ b. b < n)
+
+parts_below : (ps : List Part) (n : ℕ) → All (λ p. PartFormed p n) ps → All (λ b. b < n) (flat_map part_bits ps)
+parts_below [] n h = All-nil (λ b. b < n)
+parts_below (p ∷ ps) n h =
+    All-append (λ b. b < n) (part_bits p) (flat_map part_bits ps) (part_below p n (All-head (λ q. PartFormed q n) p ps h)) (parts_below ps n (All-tail (λ q. PartFormed q n) p ps h))
+
 mutual
-  targets_below : (s : Stmt) (n sites : ℕ) → IsWithin s n sites → All (λ b. b < n) (targets_of s)
-  targets_below (Assign site delayed target value) n sites h = h.1
+  pub targets_below : (s : Stmt) (n sites : ℕ) → IsWithin s n sites → All (λ b. b < n) (targets_of s)
+  targets_below (Assign site delayed target value) n sites h = parts_below target.parts n h.1.0
   targets_below (Branch' site test p a q b) n sites h = All-append (λ b. b < n) (all_targets a) (all_targets b) (all_targets_below a n sites h.2) (all_targets_below b n sites h.3)
   targets_below (Block' shape all) n sites h = all_targets_below all n sites h
 
@@ -37,14 +54,16 @@ mutual
   all_targets_below end_of-Stmt n sites h = All-nil (λ b. b < n)
   all_targets_below (more_of-Stmt s rest) n sites h = All-append (λ b. b < n) (targets_of s) (all_targets rest) (targets_below s n sites h.0) (all_targets_below rest n sites h.1)
 
-bits_below : (bits ts : List ℕ) (n : ℕ) → ((b : ℕ) → among bits b ≡ among ts b) → All (λ b. b < n) ts → All (λ b. b < n) bits
+-- bits that are among some below n
+pub bits_below : (bits ts : List ℕ) (n : ℕ) → ((b : ℕ) → among bits b ≡ among ts b) → All (λ b. b < n) ts → All (λ b. b < n) bits
 bits_below bits ts n same below k d lt =
     all_in (λ b. b < n) ts below _ (among-Contains ts _ (sym (same _) ∙ Contains-among bits _ (k, lt, get_or_default bits k _ d lt)))
 
--- the bits that bodies within n assign are below n
-pub assigned_below : (s : Stmt) (bits : List ℕ) (n sites : ℕ) → IsWithin s n sites → ((b : ℕ) → among bits b ≡ among (targets_of s) b) → All (λ b. b < n) bits
-assigned_below s bits n sites h same = bits_below bits (targets_of s) n same (targets_below s n sites h)
+-- what is saved of these bits
+pub is_saved : (some targets bits saved literals : List ℕ) → IsStrictlyIncreasing bits → ((b : ℕ) → among bits b ≡ among some b) → All (λ b. b < length targets) some →
+    saved ≡ bits → literals ≡ map (literal_at targets) bits → IsSaved some targets saved literals
+is_saved some targets bits saved literals rises same within is made =
+    subst (λ xs. IsSaved some targets xs literals) (sym is) (record { rises = rises; same = same; within = bits_below bits some (length targets) same within; literals_are = made })
 
-pub assigned_in_arms_below : (s t : Stmt) (bits : List ℕ) (n sites : ℕ) → IsWithin s n sites → IsWithin t n sites → ((b : ℕ) → among bits b ≡ among (targets_of s ++ targets_of t) b) → All (λ b. b < n) bits
-assigned_in_arms_below s t bits n sites h k same =
-    bits_below bits (targets_of s ++ targets_of t) n same (All-append (λ b. b < n) (targets_of s) (targets_of t) (targets_below s n sites h) (targets_below t n sites k))
+pub saved_exist : (g : Graph) (some targets bits literals : List ℕ) → All (IsLiteral g) targets → IsSaved some targets bits literals → All (IsLiteral g) literals
+saved_exist g some targets bits literals exist s = subst (All (IsLiteral g)) (sym s.literals_are) (picked_exist g targets bits exist s.within)

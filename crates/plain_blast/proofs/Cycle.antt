@@ -7,14 +7,16 @@ use Rattle.std.proofs.lemmas.List.Elements.{All-nil, All-cons, All-head, All-tai
 use Rattle.design_core.specs.declared.flat.Stmt.{Stmt}
 use Rattle.design_core.specs.declared.flat.Process.{Process}
 use Rattle.design_core.specs.declared.flat.Design.{Design}
-use Rattle.design_core.specs.Exec.{bit_at, perform, exec, exec_each}
+use Rattle.bit_exprs.specs.Updates.{perform}
+use Rattle.bit_exprs.specs.Values.{bit_at}
+use Rattle.design_core.specs.Exec.{exec, exec_each}
 use Rattle.design_core.specs.Bounds.{IsWithin, AssignsBy}
 use Rattle.design_core.specs.Settled.{Settled, Hit, next_of, is_clocked, updated, clocked_updates}
 use Rattle.design_core.specs.Legality.{IsLegal, bodies, process_at, is_given}
 use Rattle.design_core.specs.Alike.{Alike}
-use Rattle.design_core.specs.Drive.{among}
+use Rattle.bit_exprs.specs.Named.{among}
 use Rattle.design_core.proofs.Truth.{either_way}
-use Rattle.design_core.proofs.Effects.{length-perform}
+use Rattle.bit_exprs.proofs.Performing.{length-perform}
 use Rattle.design_core.proofs.Updates.{bit_performed}
 use Rattle.design_core.proofs.Settling.{settles, of_bodies, to_bodies, started, done, registers_put, among_some, some_among, Contains-some, some-Contains}
 use Rattle.design_core.proofs.OneSettling.{settles_at}

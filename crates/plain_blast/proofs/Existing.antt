@@ -16,7 +16,8 @@ use Rattle.design_core.proofs.ResetLaws.{all_in}
 use Rattle.aig_core.specs.Graph.{Graph, node_count, IsLiteral, Extends}
 use Rattle.aig_core.proofs.Values.{IsLiteral-Extends, Extends-refl, Extends-trans, Extends-at}
 use Rattle.plain_blast.specs.declared.bodies.Passed.{Passed}
-use Rattle.plain_blast.specs.Plain.{literal_at, leaves_at, first_literals, first_graph}
+use Rattle.expr_blast.specs.Circuits.{literal_at}
+use Rattle.plain_blast.specs.Plain.{leaves_at, first_literals, first_graph}
 use Rattle.plain_blast.specs.Exist.{PathsExist}
 
 pub all_kept : (g h : Graph) (xs : List ℕ) → Extends g h → All (IsLiteral g) xs → All (IsLiteral h) xs
@@ -60,7 +61,7 @@ first_exist_at d g xs same e = rw (same, e) (first_exist d)
 
 mutual
   within_more : (s : Stmt) (n m m' : ℕ) → m ≤ m' → IsWithin s n m → IsWithin s n m'
-  within_more (Assign site delayed target value) n m m' le h = (site_more site h.0, h.1, h.2, h.3, h.4)
+  within_more (Assign site delayed target value) n m m' le h = (site_more site h.0, h.1, h.2, h.3)
     where
       site_more : (o : Option ℕ) → IfSome o (λ s. s < m) → IfSome o (λ s. s < m')
       site_more None k = tt

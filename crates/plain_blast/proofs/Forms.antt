@@ -1,43 +1,20 @@
 -- The definitions at a variant whose parts are boxed or listed.
-use Rattle.std.proofs.Common.{◌≡◌, ℕ, ◌+◌, ◌*◌, Bool, true, cond, List, [], ◌++◌, refl, sym, ap, ◌∙◌, arith}
+use Rattle.std.proofs.Common.{◌≡◌, ℕ, ◌+◌, Bool, true, cond, List, [], ◌++◌, refl, sym, ap, ◌∙◌, arith}
 use Rattle.std.specs.Prelude.{flat_map, Some}
 use Rattle.std.specs.List.{sum_by}
 use Rattle.std.proofs.lemmas.List.Sums.{sum_by-cons}
 use Rattle.std.proofs.lemmas.List.{append-nil}
 use denote.Hole.Carrier.{hidden}
-use Rattle.design_core.specs.declared.flat.Expr.{Expr, Unary, Binary}
-use Rattle.design_core.specs.declared.flat.Expr.TheBlock.{hidden-the_row-Expr-0}
-use Rattle.design_core.specs.declared.flat.UnaryOp.{UnaryOp}
-use Rattle.design_core.specs.declared.flat.BinaryOp.{BinaryOp}
+use mathlib.Core.Former.{Count}
+use Rattle.bit_exprs.specs.declared.forms.Expr.{Expr}
 use Rattle.design_core.specs.declared.flat.Reset.{Reset}
 use Rattle.design_core.specs.declared.flat.Stmt.{Stmt, Branch, Block, Row_of-Stmt, end_of-Stmt, more_of-Stmt, items-the_row-Stmt, items_hidden-the_row-Stmt-1}
 use Rattle.design_core.specs.declared.flat.Stmt.TheVariants.{Block'}
-use mathlib.Core.Former.{Count}
 use Rattle.design_core.specs.declared.flat.Stmt.TheBlock.{hidden-the_row-Stmt-0}
-use Rattle.design_core.specs.Exec.{width_of}
-use Rattle.aig_core.specs.Graph.{Graph, negation, and_of}
-use Rattle.plain_blast.specs.Plain.{unary_of, binary_of, word_of, test_of, choose_of, Wiring, wiring, past, run_of, run_all, run_each, active_of, reset_by}
+use Rattle.aig_core.specs.Graph.{Graph}
+use Rattle.plain_blast.specs.Plain.{fork_of, choose_of, Wiring, wiring, past, run_of, run_all, run_each, active_of, reset_by}
 use Rattle.plain_blast.specs.Assigned.{targets_of, all_targets}
-use Rattle.plain_blast.specs.Cost.{bit_cost, expr_cost, different, stmt_cost, all_cost, arm_bits}
-
--- ---- expressions
-
-pub word-Unary : (op : UnaryOp) (e : Expr) (g : Graph) (bits : List ℕ) → word_of (Unary op e) g bits ≡ unary_of op (word_of e g bits).0 (word_of e g bits).1
-unfolding hidden-the_row-Expr-0 hidden
-word-Unary op e g bits = refl
-
-pub word-Binary : (op : BinaryOp) (e f : Expr) (g : Graph) (bits : List ℕ) →
-    word_of (Binary op e f) g bits ≡ binary_of op (word_of f (word_of e g bits).0 bits).0 (word_of e g bits).1 (word_of f (word_of e g bits).0 bits).1
-unfolding hidden-the_row-Expr-0 hidden
-word-Binary op e f g bits = refl
-
-pub cost-Unary : (op : UnaryOp) (e : Expr) → expr_cost (Unary op e) ≡ expr_cost e
-unfolding hidden-the_row-Expr-0 hidden
-cost-Unary op e = refl
-
-pub cost-Binary : (op : BinaryOp) (e f : Expr) → expr_cost (Binary op e f) ≡ expr_cost e + expr_cost f + bit_cost op * width_of (Binary op e f)
-unfolding hidden-the_row-Expr-0 hidden
-cost-Binary op e f = refl
+use Rattle.plain_blast.specs.Cost.{different, fork_cost, stmt_cost, all_cost, arm_bits}
 
 -- ---- statements
 
@@ -48,12 +25,10 @@ row_of _ = (_, end_of-Stmt)
 -- what a branch makes
 abbrev pub branch_of : ℕ → Expr → Stmt → Stmt → Bool → List ℕ → ℕ → Wiring → Wiring
 branch_of site test a b clocked settled path w =
-    let c = test_of test w.graph (cond clocked settled w.targets) in
-    let t = and_of c.0 path c.1 in
-    let e = and_of t.0 path (negation c.1) in
-    let x = run_of a clocked settled t.1 (wiring e.0 w.targets (past site t.1 w.paths)) in
-    let y = run_of b clocked settled e.1 (wiring x.graph w.targets (past (site + 1) e.1 x.paths)) in
-    let m = choose_of y.graph c.1 x.targets y.targets in
+    let f = fork_of test path (cond clocked settled w.targets) w.graph in
+    let x = run_of a clocked settled f.1.then_path (wiring f.0 w.targets (past site f.1.then_path w.paths)) in
+    let y = run_of b clocked settled f.1.else_path (wiring x.graph w.targets (past (site + 1) f.1.else_path x.paths)) in
+    let m = choose_of y.graph f.1.test x.targets y.targets in
     wiring m.0 m.1 y.paths
 
 pub run-Branch : (site : ℕ) (test : Expr) (a b : Stmt) (clocked : Bool) (settled : List ℕ) (path : ℕ) (w : Wiring) →
@@ -99,10 +74,9 @@ no_more : (n : ℕ) → n + 0 ≡ n
 no_more n = omega arith
 
 pub cost-Branch : (site : ℕ) (test : Expr) (a b : Stmt) →
-    stmt_cost (Branch site test a b) ≡ expr_cost test + (width_of test + 2 + 3 * different (targets_of a ++ targets_of b)) + (stmt_cost a + stmt_cost b)
+    stmt_cost (Branch site test a b) ≡ fork_cost test (targets_of a ++ targets_of b) + (stmt_cost a + stmt_cost b)
 unfolding hidden-the_row-Stmt-0 hidden
-cost-Branch site test a b = λ j.
-    expr_cost test + (width_of test + 2 + 3 * different (append-nil (targets_of a) j ++ append-nil (targets_of b) j)) + (no_more (stmt_cost a) j + no_more (stmt_cost b) j)
+cost-Branch site test a b = λ j. fork_cost test (append-nil (targets_of a) j ++ append-nil (targets_of b) j) + (no_more (stmt_cost a) j + no_more (stmt_cost b) j)
 
 pub arm_bits-Branch : (site : ℕ) (test : Expr) (a b : Stmt) → arm_bits (Branch site test a b) ≡ different (targets_of a)
 unfolding hidden-the_row-Stmt-0 hidden

@@ -1,7 +1,7 @@
 -- A hit literal is 1 where the site is among those that were passed.
 use Rattle.std.proofs.Common.{◌≡◌, ℕ, ◌==◌, Bool, true, false, ◌&&◌, ◌||◌, cond, List, [], ◌∷◌, ◌++◌, length, map, All, refl, sym, ap, ◌∙◌, arith}
 use Rattle.std.proofs.lemmas.List.Elements.{All-head, All-tail, All-cons, All-nil}
-use Rattle.design_core.specs.Drive.{among}
+use Rattle.bit_exprs.specs.Named.{among}
 use Rattle.aig_core.specs.Graph.{Graph, leaf_count, IsLiteral, IsWellFormed, value_of, Extends}
 use Rattle.aig_core.proofs.Values.{Extends-refl, Extends-trans, value_of-Extends, value_of-zero, IsLiteral-Extends, leaf_count-Extends}
 use Rattle.word_blast.specs.Bits.{or_of}

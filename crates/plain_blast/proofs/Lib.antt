@@ -4,10 +4,10 @@ pub mod Chosen
 pub mod Forms
 pub mod Untouched
 pub mod Branching
-pub mod WordForms
 pub mod Ordering
 pub mod Collecting
 pub mod Literals
+pub mod StepLaws
 pub mod BodyLaws
 pub mod PhaseLaws
 pub mod HitLaws

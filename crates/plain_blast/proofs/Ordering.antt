@@ -11,7 +11,7 @@ use Rattle.std.proofs.lemmas.List.Kept.{Contains-dedup_nat, Contains-from_dedup}
 use Rattle.std.proofs.lemmas.List.Sorted.{Contains-permutation}
 use Rattle.std.proofs.lemmas.Map.Keys.{IsStrictlyIncreasing-dedup}
 use Rattle.std.proofs.lemmas.Bool.{cases_Bool}
-use Rattle.design_core.specs.Drive.{among}
+use Rattle.bit_exprs.specs.Named.{among}
 use Rattle.design_core.proofs.Settling.{among_some, some_among, Contains-some, some-Contains}
 
 pub among-Contains : (xs : List ℕ) (b : ℕ) → among xs b ≡ true → Contains xs b

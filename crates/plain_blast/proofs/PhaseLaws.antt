@@ -5,10 +5,11 @@ use Rattle.std.proofs.lemmas.List.{map-set, append-nil}
 use Rattle.std.proofs.lemmas.List.Elements.{All-head, All-tail, All-nil}
 use Rattle.design_core.specs.declared.flat.Stmt.{Stmt}
 use Rattle.design_core.specs.declared.flat.Process.{Process}
-use Rattle.design_core.specs.Exec.{perform, exec, exec_each}
+use Rattle.bit_exprs.specs.Updates.{perform}
+use Rattle.design_core.specs.Exec.{exec, exec_each}
 use Rattle.design_core.specs.Bounds.{IsWithin, AssignsBy}
 use Rattle.design_core.specs.Settled.{is_clocked, clocked_updates}
-use Rattle.design_core.proofs.Updates.{perform-append}
+use Rattle.bit_exprs.proofs.Performing.{perform-append}
 use Rattle.aig_core.specs.Graph.{Graph, IsLiteral, value_of}
 use Rattle.aig_core.proofs.Values.{Extends-refl, Extends-trans, value_of-zero, value_of-one, value_in-node}
 use Rattle.word_blast.specs.Words.{spelled}

@@ -1,13 +1,14 @@
 -- What the resets do to the literals of registers, and to the values of bits.
-use Rattle.std.proofs.Common.{◌≡◌, ℕ, ◌<◌, Bool, true, false, not, cond, List, [], ◌∷◌, ◌++◌, length, All, map, get_or, refl, sym, ap, ◌∙◌, subst, inl, inr, true≢false, arith}
-use Rattle.std.specs.Prelude.{Option, Some, None, Contains, zip, slice_get, ◌==◌}
+use Rattle.std.proofs.Common.{◌≡◌, ℕ, ◌<◌, Bool, true, false, not, nat_eq, cond, List, [], ◌∷◌, ◌++◌, length, All, get_or, refl, sym, ap, ◌∙◌, subst, inl, inr, true≢false, arith}
+use Rattle.std.specs.Prelude.{Option, Some, None, Contains, zip, slice_get}
 use Rattle.std.proofs.lemmas.List.{get_or-map, ext_get_or}
 use Rattle.std.proofs.lemmas.List.Elements.{All-head, All-tail, All-nil}
-use Rattle.std.proofs.lemmas.Bool.{cases_Bool}
-use Rattle.word_core.specs.Words.{any}
-use Rattle.design_core.specs.declared.flat.Expr.{Expr, Row_of-Expr, end_of-Expr, more_of-Expr}
-use Rattle.design_core.specs.declared.flat.Expr.TheVariants.{Const, Read, Unary', Binary'}
-use Rattle.design_core.specs.declared.flat.UnaryOp.TheVariants.{Not}
+use Rattle.std.proofs.lemmas.Bool.{cases_Bool, or_parts, or_from}
+use Rattle.bit_exprs.specs.Values.{bit_at, value_of}
+use Rattle.bit_exprs.specs.Updates.{perform}
+use Rattle.bit_exprs.specs.Named.{among}
+use Rattle.bit_exprs.proofs.Performing.{length-perform, perform-append, gives, performed_other}
+use Rattle.bit_exprs.proofs.Given.{not_given}
 use Rattle.design_core.specs.declared.flat.Stmt.{Stmt, Row_of-Stmt, end_of-Stmt, more_of-Stmt}
 use Rattle.design_core.specs.declared.flat.Stmt.TheVariants.{Assign, Branch', Block'}
 use Rattle.design_core.specs.declared.flat.ProcKind.{ProcKind}
@@ -15,58 +16,26 @@ use Rattle.design_core.specs.declared.flat.ProcKind.TheVariants.{Comb, Clocked}
 use Rattle.design_core.specs.declared.flat.Reset.{Reset}
 use Rattle.design_core.specs.declared.flat.Process.{Process}
 use Rattle.design_core.specs.declared.flat.Design.{Design}
-use Rattle.design_core.specs.Exec.{bit_at, xor, expr_value, operand_value, written, target_bits, perform, exec, exec_all}
+use Rattle.design_core.specs.Exec.{xor, exec, exec_all}
 use Rattle.design_core.specs.Bounds.{IsWithin, AssignsBy}
-use Rattle.design_core.specs.Drive.{among, drives, any_drives}
+use Rattle.design_core.specs.Drive.{drives, any_drives}
 use Rattle.design_core.specs.Settled.{is_clocked, reset_of, is_active, updated, reset_updates}
-use Rattle.design_core.specs.Resets.{IsRead, OperandIsRead, IsResetTest, IsResetBody}
+use Rattle.design_core.specs.Resets.{IsResetBody}
 use Rattle.design_core.specs.Legality.{IsLegal}
 use Rattle.design_core.proofs.Truth.{or_false_left, or_false_right}
-use Rattle.design_core.proofs.Effects.{by_cond, length-perform}
-use Rattle.design_core.proofs.Updates.{perform-append, bit_performed}
-use Rattle.design_core.proofs.ResetLaws.{all_in}
+use Rattle.design_core.proofs.Effects.{by_cond}
+use Rattle.design_core.proofs.Updates.{bit_performed}
+use Rattle.design_core.proofs.ResetLaws.{all_in, test_true}
 use Rattle.design_core.proofs.Settling.{inputs_other, inputs_at, among_some, some_among, Contains-some}
-use Rattle.aig_core.specs.Graph.{Graph, leaf_count, IsLiteral, IsWellFormed, negation, value_of, Extends}
+use Rattle.aig_core.specs.Graph.{Graph, leaf_count, IsLiteral, IsWellFormed, negation, Extends, value_of as literal_value}
 use Rattle.aig_core.proofs.Values.{Extends-refl, Extends-trans, value_of-Extends, value_of-negation, value_of-one, IsLiteral-Extends, IsLiteral-negation}
 use Rattle.word_blast.specs.Words.{spelled}
+use Rattle.expr_blast.specs.Circuits.{literal_at}
 use Rattle.plain_blast.specs.declared.bodies.Passed.{Passed}
-use Rattle.plain_blast.specs.Plain.{literal_at, Wiring, wiring, run_all, choose_of, active_of, reset_by, resets_of}
+use Rattle.plain_blast.specs.Plain.{Wiring, wiring, run_all, choose_of, active_of, reset_by, resets_of}
 use Rattle.plain_blast.proofs.Existing.{all_kept}
 use Rattle.plain_blast.proofs.Literals.{spelled_kept, same_leaves, choose_gives, Chosen}
 use Rattle.plain_blast.proofs.BodyLaws.{run_all_means}
-
--- ---- the first arm is taken where the reset is active
-
-read_value : (b : ℕ) (x : Expr) (v : List Bool) → IsRead b x → expr_value x v ≡ bit_at v b ∷ []
-read_value b (Const c) v h = absurd h
-read_value b (Read bits) v h = ap (map (bit_at v)) h
-read_value b (Unary' op p x) v h = absurd h
-read_value b (Binary' op p x q y) v h = absurd h
-
-operand_read : {m : _} (b : ℕ) (x : Row_of-Expr m) (v : List Bool) → OperandIsRead b x → operand_value x v ≡ bit_at v b ∷ []
-operand_read b end_of-Expr v h = absurd h
-operand_read b (more_of-Expr e rest) v h = read_value b e v h
-
-any_one : (x : Bool) → x ≡ true → any (x ∷ []) ≡ true
-any_one x h = rw h refl
-
-same_as_true : (a b : Bool) → not (xor a b) ≡ true → b ≡ true → a ≡ true
-same_as_true true b h e = refl
-same_as_true false true h e = cc
-same_as_true false false h e = cc
-
-same_as_false : (a b : Bool) → not (xor a b) ≡ true → b ≡ false → a ≡ false
-same_as_false false b h e = refl
-same_as_false true true h e = cc
-same_as_false true false h e = cc
-
-test_true : (r : Reset) (e : Expr) (v : List Bool) → IsResetTest r e → is_active (Some r) v ≡ true → any (expr_value e v) ≡ true
-test_true r (Const x) v h on = absurd h
-test_true r (Read bits) v h on =
-    ap (λ bs. any (map (bit_at v) bs)) h.0 ∙ any_one (bit_at v r.bit) (same_as_true (bit_at v r.bit) r.active on h.1)
-test_true r (Unary' Not p x) v h on =
-    ap (λ xs. any (map not xs)) (operand_read r.bit x v h.0) ∙ any_one (not (bit_at v r.bit)) (ap not (same_as_false (bit_at v r.bit) r.active on h.1))
-test_true r (Binary' op p x q y) v h on = absurd h
 
 -- ---- the literal of a reset's being active
 
@@ -78,16 +47,16 @@ not_same : (a : Bool) → not a ≡ not (xor a false)
 not_same true = refl
 not_same false = refl
 
-active_is : (r : Reset) (g : Graph) (leaves : List Bool) (bits : List ℕ) (u : List Bool) → r.bit < length bits → spelled g leaves bits ≡ u → value_of g leaves (active_of r bits) ≡ is_active (Some r) u
+active_is : (r : Reset) (g : Graph) (leaves : List Bool) (bits : List ℕ) (u : List Bool) → r.bit < length bits → spelled g leaves bits ≡ u → literal_value g leaves (active_of r bits) ≡ is_active (Some r) u
 active_is r g leaves bits u lt spell = by r.active
   where
     a : ℕ
     a = literal_at bits r.bit
 
-    at : value_of g leaves a ≡ bit_at u r.bit
-    at = sym (get_or-map (value_of g leaves) bits r.bit 0 false lt) ∙ ap (λ v. bit_at v r.bit) spell
+    at : literal_value g leaves a ≡ bit_at u r.bit
+    at = sym (get_or-map (literal_value g leaves) bits r.bit 0 false lt) ∙ ap (λ v. bit_at v r.bit) spell
 
-    by : (b : Bool) → value_of g leaves (cond b a (negation a)) ≡ not (xor (bit_at u r.bit) b)
+    by : (b : Bool) → literal_value g leaves (cond b a (negation a)) ≡ not (xor (bit_at u r.bit) b)
     by true = at ∙ not_not_same (bit_at u r.bit)
     by false = value_of-negation g leaves a ∙ ap not at ∙ not_same (bit_at u r.bit)
 
@@ -191,46 +160,41 @@ resets_hold (p ∷ ps) first bits g leaves n sites u v can within len f b =
 
 -- ---- what resets give leaves the inputs as they are
 
-updated-append : (a b : List (ℕ × Bool)) (c : ℕ) (x : Bool) → updated (a ++ b) c x ≡ updated b c (updated a c x)
-updated-append [] b c x = refl
-updated-append (u ∷ a) b c x = updated-append a b c _
-
-written_spares : (bits : List ℕ) (word : List Bool) (b : ℕ) (x : Bool) → among bits b ≡ false → updated (written bits word) b x ≡ x
-written_spares [] word b x h = refl
-written_spares (a ∷ bits) [] b x h = ap (λ c. updated (written bits []) b (cond c false x)) (or_false_left (a == b) _ h) ∙ written_spares bits [] b x (or_false_right (a == b) _ h)
-written_spares (a ∷ bits) (y ∷ word) b x h = ap (λ c. updated (written bits word) b (cond c y x)) (or_false_left (a == b) _ h) ∙ written_spares bits word b x (or_false_right (a == b) _ h)
+gives_both : (us ws : List (ℕ × Bool)) (b : ℕ) → gives us b ≡ false → gives ws b ≡ false → gives (us ++ ws) b ≡ false
+gives_both [] ws b h k = k
+gives_both (u ∷ us) ws b h k =
+    let no = or_parts (nat_eq u.0 b) (gives us b) h in or_from (nat_eq u.0 b) (gives (us ++ ws) b) no.0 (gives_both us ws b no.1 k)
 
 mutual
-  body_spares : (s : Stmt) (v : List Bool) (b : ℕ) (x : Bool) → drives s b ≡ false → updated (exec s v).updates b x ≡ x
-  body_spares (Assign site true target value) v b x h = written_spares (target_bits target) (expr_value value v) b x h
-  body_spares (Assign site false target value) v b x h = refl
-  body_spares (Branch' site test p a q c) v b x h =
-      by_cond (λ e. updated e.updates b x ≡ x) (any (expr_value test v)) _ _ (row_spares a v b x (or_false_left _ _ h)) (row_spares c v b x (or_false_right (any_drives a b) _ h))
-  body_spares (Block' shape all) v b x h = row_spares all v b x h
+  body_spares : (s : Stmt) (v : List Bool) (b : ℕ) → drives s b ≡ false → gives (exec s v).updates b ≡ false
+  body_spares (Assign site true target value) v b h = not_given target (value_of value v) v b h
+  body_spares (Assign site false target value) v b h = refl
+  body_spares (Branch' site test p a q c) v b h =
+      by_cond (λ e. gives e.updates b ≡ false) (nat_eq (value_of test v) 0) _ _ (row_spares c v b (or_false_right (any_drives a b) _ h)) (row_spares a v b (or_false_left _ _ h))
+  body_spares (Block' shape all) v b h = row_spares all v b h
 
-  row_spares : {m : _} (all : Row_of-Stmt m) (v : List Bool) (b : ℕ) (x : Bool) → any_drives all b ≡ false → updated (exec_all all v).updates b x ≡ x
-  row_spares end_of-Stmt v b x h = refl
-  row_spares (more_of-Stmt s rest) v b x h =
-      updated-append (exec s v).updates (exec_all rest (exec s v).values).updates b x
-      ∙ ap (updated (exec_all rest (exec s v).values).updates b) (body_spares s v b x (or_false_left _ _ h)) ∙ row_spares rest (exec s v).values b x (or_false_right (drives s b) _ h)
+  row_spares : {m : _} (all : Row_of-Stmt m) (v : List Bool) (b : ℕ) → any_drives all b ≡ false → gives (exec_all all v).updates b ≡ false
+  row_spares end_of-Stmt v b h = refl
+  row_spares (more_of-Stmt s rest) v b h =
+      gives_both (exec s v).updates (exec_all rest (exec s v).values).updates b (body_spares s v b (or_false_left _ _ h)) (row_spares rest (exec s v).values b (or_false_right (drives s b) _ h))
 
 -- a process with a reset doesn't drive bit b
 abbrev Spares : ℕ → Process → Type 0
 Spares b p = (r : Reset) → reset_of p.kind ≡ Some r → drives p.body b ≡ false
 
-one_spares : (o : Option Reset) (body : Stmt) (v : List Bool) (b : ℕ) (x : Bool) → ((r : Reset) → o ≡ Some r → drives body b ≡ false) → updated (cond (is_active o v) (exec body v).updates []) b x ≡ x
-one_spares None body v b x h = refl
-one_spares (Some r) body v b x h = by (is_active (Some r) v)
+one_spares : (o : Option Reset) (body : Stmt) (v : List Bool) (b : ℕ) → ((r : Reset) → o ≡ Some r → drives body b ≡ false) → gives (cond (is_active o v) (exec body v).updates []) b ≡ false
+one_spares None body v b h = refl
+one_spares (Some r) body v b h = by (is_active (Some r) v)
   where
-    by : (on : Bool) → updated (cond on (exec body v).updates []) b x ≡ x
-    by true = body_spares body v b x (h r refl)
+    by : (on : Bool) → gives (cond on (exec body v).updates []) b ≡ false
+    by true = body_spares body v b (h r refl)
     by false = refl
 
-resets_spare : (ps : List Process) (v : List Bool) (b : ℕ) (x : Bool) → All (Spares b) ps → updated (reset_updates ps v) b x ≡ x
-resets_spare [] v b x h = refl
-resets_spare (p ∷ ps) v b x h =
-    updated-append (cond (is_active (reset_of p.kind) v) (exec p.body v).updates []) (reset_updates ps v) b x
-    ∙ ap (updated (reset_updates ps v) b) (one_spares (reset_of p.kind) p.body v b x (All-head (Spares b) p ps h)) ∙ resets_spare ps v b x (All-tail (Spares b) p ps h)
+resets_spare : (ps : List Process) (v : List Bool) (b : ℕ) → All (Spares b) ps → gives (reset_updates ps v) b ≡ false
+resets_spare [] v b h = refl
+resets_spare (p ∷ ps) v b h =
+    gives_both (cond (is_active (reset_of p.kind) v) (exec p.body v).updates []) (reset_updates ps v) b
+    (one_spares (reset_of p.kind) p.body v b (All-head (Spares b) p ps h)) (resets_spare ps v b (All-tail (Spares b) p ps h))
 
 module _ (d : Design) (order : List ℕ) (legal : IsLegal d order) where
   inputs_spared : (b : ℕ) → Contains d.inputs b → All (Spares b) d.processes
@@ -251,13 +215,13 @@ module _ (d : Design) (order : List ℕ) (legal : IsLegal d order) where
       ext_get_or false (perform us begun) (perform (zip d.inputs i) reset) (length-perform us begun ∙ begun_wide ∙ sym (length-perform (zip d.inputs i) reset ∙ reset_wide)) (λ b lt.
       let lt' : b < length begun = rw length-perform at lt in
       let low : b < length d.bits = rw begun_wide at lt' in
-      bit_performed us begun b lt' ∙ elim (cases_Bool (among d.inputs b)) [
+      elim (cases_Bool (among d.inputs b)) [
         | inl input ↦
             let at = among_some d.inputs b input in
-            resets_spare d.processes u b (bit_at begun b) (inputs_spared b (Contains-some d.inputs at.0 b at.1))
+            performed_other us begun b (resets_spare d.processes u b (inputs_spared b (Contains-some d.inputs at.0 b at.1)))
             ∙ inputs_at d.inputs i base at.0 b legal.inputs_distinct (rw wide legal.inputs_within) long at.1
             ∙ sym (inputs_at d.inputs i reset at.0 b legal.inputs_distinct (rw reset_wide legal.inputs_within) long at.1)
         | inr other ↦
             let no : (j : ℕ) → slice_get d.inputs j ≡ Some b → ⊥ = λ j e. true≢false (sym (some_among d.inputs j b e) ∙ other) in
-            ap (updated us b) (inputs_other d.inputs i base b no) ∙ sym (inputs_other d.inputs i reset b no ∙ bit_performed us base b (rw wide low))
+            bit_performed us begun b lt' ∙ ap (updated us b) (inputs_other d.inputs i base b no) ∙ sym (inputs_other d.inputs i reset b no ∙ bit_performed us base b (rw wide low))
       ])

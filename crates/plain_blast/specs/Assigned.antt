@@ -2,7 +2,7 @@
 use Rattle.std.specs.Prelude.{ℕ, List, [], ◌++◌}
 use Rattle.design_core.specs.declared.flat.Stmt.{Stmt, Row_of-Stmt, end_of-Stmt, more_of-Stmt}
 use Rattle.design_core.specs.declared.flat.Stmt.TheVariants.{Assign, Branch', Block'}
-use Rattle.design_core.specs.Exec.{target_bits}
+use Rattle.bit_exprs.specs.Named.{target_bits}
 
 abbrev mutual
   -- the bits of its targets, in the order in which they are written

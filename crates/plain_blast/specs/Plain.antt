@@ -1,74 +1,25 @@
 -- The circuit of a design: its gates, in the order in which they are made, since a certificate cites their numbers.
 use Rattle.std.specs.Prelude.{ℕ, ◌+◌, ◌*◌, ◌==◌, Bool, true, false, cond, List, [], ◌∷◌, ◌++◌, length, map, Option, Some, None, slice_set, get_or, replicate}
-use Rattle.design_core.specs.declared.flat.Expr.{Expr, Row_of-Expr, end_of-Expr, more_of-Expr}
-use Rattle.design_core.specs.declared.flat.Expr.TheVariants.{Const, Read, Unary', Binary'}
-use Rattle.design_core.specs.declared.flat.UnaryOp.{UnaryOp}
-use Rattle.design_core.specs.declared.flat.UnaryOp.TheVariants.{Not}
-use Rattle.design_core.specs.declared.flat.BinaryOp.{BinaryOp}
-use Rattle.design_core.specs.declared.flat.BinaryOp.TheVariants.{And, Or, Xor}
+use Rattle.bit_exprs.specs.declared.forms.Expr.{Expr}
+use Rattle.bit_exprs.specs.declared.forms.Target.{Target}
 use Rattle.design_core.specs.declared.flat.Stmt.{Stmt, Row_of-Stmt, end_of-Stmt, more_of-Stmt}
 use Rattle.design_core.specs.declared.flat.Stmt.TheVariants.{Assign, Branch', Block'}
 use Rattle.design_core.specs.declared.flat.Process.{Process}
 use Rattle.design_core.specs.declared.flat.Reset.{Reset}
 use Rattle.design_core.specs.declared.flat.BitInfo.{BitInfo}
 use Rattle.design_core.specs.declared.flat.Design.{Design}
-use Rattle.design_core.specs.Exec.{target_bits}
 use Rattle.design_core.specs.Settled.{is_clocked, reset_of}
 use Rattle.design_core.specs.Legality.{bodies}
 use Rattle.aig_core.specs.Graph.{Graph, negation, and_of}
 use Rattle.word_blast.specs.Bits.{or_of, mux_of}
-use Rattle.word_blast.specs.Words.{circuit_not, circuit_and, circuit_or, circuit_xor, circuit_any}
+use Rattle.expr_blast.specs.Circuits.{literal_at, word_of, test_of}
+use Rattle.target_blast.specs.Writes.{put_of}
 use Rattle.bit_system.specs.declared.system.StateInfo.{StateInfo}
 use Rattle.bit_system.specs.Machine.{Machine}
+use Rattle.plain_blast.specs.declared.bodies.Fork.{Fork}
 use Rattle.plain_blast.specs.declared.bodies.Passed.{Passed}
 
--- ---- expressions
-
-abbrev pub constant : Bool → ℕ
-constant b = cond b 1 0
-
-abbrev pub unary_of : UnaryOp → Graph → List ℕ → Graph × List ℕ
-unary_of Not g xs = circuit_not g xs
-
-abbrev pub binary_of : BinaryOp → Graph → List ℕ → List ℕ → Graph × List ℕ
-binary_of And g xs ys = circuit_and g xs ys
-binary_of Or g xs ys = circuit_or g xs ys
-binary_of Xor g xs ys = circuit_xor g xs ys
-
--- the literal of a bit
-abbrev pub literal_at : List ℕ → ℕ → ℕ
-literal_at bits b = get_or bits b 0
-
-abbrev mutual
-  -- the literals of an expression, from those of the bits; the left operand is made first
-  pub word_of : Expr → Graph → List ℕ → Graph × List ℕ
-  word_of (Const word) g bits = (g, map constant word)
-  word_of (Read from) g bits = (g, map (literal_at bits) from)
-  word_of (Unary' op p a) g bits =
-      let x = operand_of a g bits in
-      unary_of op x.0 x.1
-  word_of (Binary' op p a q b) g bits =
-      let x = operand_of a g bits in
-      let y = operand_of b x.0 bits in
-      binary_of op y.0 x.1 y.1
-
-  pub operand_of : {m : _} → Row_of-Expr m → Graph → List ℕ → Graph × List ℕ
-  operand_of end_of-Expr g bits = (g, [])
-  operand_of (more_of-Expr e rest) g bits = word_of e g bits
-
--- whether an expression isn't 0
-abbrev pub test_of : Expr → Graph → List ℕ → Graph × ℕ
-test_of e g bits =
-    let x = word_of e g bits in
-    circuit_any x.0 x.1
-
 -- ---- bodies
-
--- the literals after a word is written to bits; a longer word is cut to them, and a shorter one goes on with zeros
-abbrev pub put_of : List ℕ → List ℕ → List ℕ → List ℕ
-put_of [] word targets = targets
-put_of (b ∷ bits) [] targets = put_of bits [] (slice_set targets b 0)
-put_of (b ∷ bits) (x ∷ word) targets = put_of bits word (slice_set targets b x)
 
 -- the choice by c, for each bit in order of number; where the two literals are one, no gate is made
 abbrev pub choose_of : Graph → ℕ → List ℕ → List ℕ → Graph × List ℕ
@@ -96,19 +47,31 @@ abbrev pub past_any : Option ℕ → ℕ → List Passed → List Passed
 past_any None path paths = paths
 past_any (Some site) path paths = past site path paths
 
+-- an assignment, from the literals that it reads: the value is made first, then the target's indices, and then the target's literals are written
+abbrev pub assign_of : Target → Expr → List ℕ → Graph → List ℕ → Graph × List ℕ
+assign_of target value bits g targets =
+    let x = word_of value g bits in
+    put_of target x.1 bits x.0 targets
+
+-- whether a branch under a path takes its first arm, and the paths that its arms are under
+abbrev pub fork_of : Expr → ℕ → List ℕ → Graph → Graph × Fork
+fork_of test path bits g =
+    let c = test_of test g bits in
+    let t = and_of c.0 path c.1 in
+    let e = and_of t.0 path (negation c.1) in
+    (e.0, record { test = c.1; then_path = t.1; else_path = e.1 })
+
 abbrev mutual
   -- A body, under a path literal. A clocked one reads the settled literals, another one those that it writes.
   pub run_of : Stmt → Bool → List ℕ → ℕ → Wiring → Wiring
   run_of (Assign site delayed target value) clocked settled path w =
-      let x = word_of value w.graph (cond clocked settled w.targets) in
-      wiring x.0 (put_of (target_bits target) x.1 w.targets) (past_any site path w.paths)
+      let x = assign_of target value (cond clocked settled w.targets) w.graph w.targets in
+      wiring x.0 x.1 (past_any site path w.paths)
   run_of (Branch' site test p a q b) clocked settled path w =
-      let c = test_of test w.graph (cond clocked settled w.targets) in
-      let t = and_of c.0 path c.1 in
-      let e = and_of t.0 path (negation c.1) in
-      let x = run_all a clocked settled t.1 (wiring e.0 w.targets (past site t.1 w.paths)) in
-      let y = run_all b clocked settled e.1 (wiring x.graph w.targets (past (site + 1) e.1 x.paths)) in
-      let m = choose_of y.graph c.1 x.targets y.targets in
+      let f = fork_of test path (cond clocked settled w.targets) w.graph in
+      let x = run_all a clocked settled f.1.then_path (wiring f.0 w.targets (past site f.1.then_path w.paths)) in
+      let y = run_all b clocked settled f.1.else_path (wiring x.graph w.targets (past (site + 1) f.1.else_path x.paths)) in
+      let m = choose_of y.graph f.1.test x.targets y.targets in
       wiring m.0 m.1 y.paths
   run_of (Block' shape all) clocked settled path w = run_all all clocked settled path w
 

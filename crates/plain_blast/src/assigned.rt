@@ -2,25 +2,27 @@
 
 ghost use Rattle.std.specs.Prelude.{◌≡◌, ℕ, ◌++◌, IfOk, OnOk};
 ghost use Rattle.std.specs.List.Sorted.{IsStrictlyIncreasing};
-ghost use Rattle.design_core.specs.Exec.{part_bits, target_bits};
-ghost use Rattle.design_core.specs.Drive.{among};
+ghost use Rattle.bit_exprs.specs.Named.{among, part_bits, target_bits};
 ghost use Rattle.plain_blast.specs.Assigned.{targets_of};
 
 use aig_core::Memory;
-use design_core::flat::{Bit, Part, Stmt, Target};
+use bit_exprs::forms::{Bit, Part, Target};
+use design_core::flat::Stmt;
 use std::alloc::Global;
 
-/// The bits of a part of a target.
+/// The bits that a part of a target may write.
 fn named(part: &Part) -> &[Bit]
     ensures { result.now ≡ part_bits part.now }
 {
     match part {
         Part::Bits(bits) => bits.as_slice(),
+        Part::Select { vector, .. } => vector.as_slice(),
+        Part::Outside(_) => &[],
     }
 }
 
-/// Appends the bits of a target.
-pub fn push_target(target: &Target, bits: &mut Vec<Bit>) -> Result<(), Memory>
+/// Appends the bits that a target may write.
+fn push_target(target: &Target, bits: &mut Vec<Bit>) -> Result<(), Memory>
     ensures { OnOk result (bits.new.items ≡ bits.old.items ++ target_bits target.now) }
 {
     for part in target.parts.as_slice() {

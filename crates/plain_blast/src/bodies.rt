@@ -1,18 +1,24 @@
 // The gates of bodies.
 
-ghost use Rattle.std.specs.Prelude.{◌≡◌, ◌<◌, ◌^◌, cond, true, length, All, OnOk, get_or};
+ghost use Rattle.std.specs.Prelude.{◌≡◌, ◌<◌, ◌≤◌, ◌^◌, ◌++◌, cond, true, length, map, All, IfOk, OnOk};
+ghost use Rattle.bit_exprs.specs.Values.{width_of};
+ghost use Rattle.bit_exprs.specs.Updates.{target_width};
+ghost use Rattle.bit_exprs.specs.Formed.{IsFormed, TargetFormed};
 ghost use Rattle.aig_core.specs.Graph.{IsLiteral, Extends};
-ghost use Rattle.design_core.specs.Exec.{target_bits};
+ghost use Rattle.expr_blast.specs.Circuits.{literal_at};
 ghost use Rattle.design_core.specs.Bounds.{IsWithin};
-ghost use Rattle.plain_blast.specs.Plain.{put_of, past_any, run_of, wiring};
-ghost use Rattle.plain_blast.specs.Choice.{choose_at};
+ghost use Rattle.plain_blast.specs.Plain.{past_any, assign_of, fork_of, run_of, wiring};
+ghost use Rattle.plain_blast.specs.Assigned.{targets_of};
+ghost use Rattle.plain_blast.specs.Choice.{IsSaved, set_at, choose_at};
 ghost use Rattle.plain_blast.specs.Exist.{Exist};
 
-use crate::assigned::{assigned_in_arms, push_target};
-use crate::words::{picked, test, word};
+use crate::assigned::{assigned_in, assigned_in_arms};
 use aig_core::{Aig, Memory, negated};
-use design_core::flat::{Bit, Stmt, Target};
+use bit_exprs::forms::{Bit, Expr, Target};
+use design_core::flat::Stmt;
+use expr_blast::{picked, test, word};
 use std::alloc::Global;
+use target_blast::{indices, put};
 use word_blast::bits;
 
 /// A site, and the literal that is 1 where it is passed.
@@ -22,62 +28,75 @@ pub struct Passed {
     pub path: u32,
 }
 
-/// The literal at a place of a word, which goes on with zeros.
-fn literal_of(word: &[u32], k: usize) -> u32
-    ensures { result ≡ get_or word.now k 0 }
-{
-    if k < word.len() { word[k] } else { 0 }
+/// The literal that is 1 where a branch takes its first arm, and those of the paths that its arms are under.
+#[derive(Clone, Copy)]
+pub struct Fork {
+    pub test: u32,
+    pub then_path: u32,
+    pub else_path: u32,
 }
 
-/// Writes a word to bits. A longer word is cut to them, and a shorter one goes on with zeros.
-#[tactic(auto, using(crate::proofs::Written::put_more))]
-pub fn put(bits: &[Bit], word: &[u32], targets: &mut [u32])
-    requires { All (λ b. b < length targets.old) bits.now }
-    ensures { targets.new ≡ put_of bits.now word.now targets.old }
+/// Some bits in order of number, and a literal for each of them.
+#[derive(Drop)]
+pub struct Saved {
+    pub bits: Vec<Bit>,
+    pub literals: Vec<u32>,
+}
+
+/// The literals of these bits.
+fn save(alloc: Global, bits: Vec<Bit>, targets: &[u32]) -> Result<Saved, Memory>
+    requires { All (λ b. b < length targets.now) bits.items }
+    ensures bits { IfOk result (λ s. s.bits.items ≡ bits.items) }
+    ensures literals { IfOk result (λ s. s.literals.items ≡ map (literal_at targets.now) bits.items) }
+{
+    let literals = picked(alloc, targets, &bits)?;
+    Ok(Saved { bits, literals })
+}
+
+/// Gives each of the bits the literal given for it.
+#[tactic(auto, using(crate::proofs::Written::set_more))]
+fn set(bits: &[Bit], given: &[u32], targets: &mut [u32])
+    requires within { All (λ b. b < length targets.old) bits.now }
+    requires long { length given.now ≡ length bits.now }
+    ensures { targets.new ≡ set_at bits.now given.now targets.old }
 {
     for (k, bit) in bits.iter().enumerate() {
-        targets[*bit as usize] = literal_of(word, k);
+        targets[*bit as usize] = given[k];
     }
 }
 
-/// Writes a word to a target.
-fn put_target(
-    alloc: Global,
-    target: &Target,
-    word: &[u32],
-    targets: &mut [u32],
-) -> Result<(), Memory>
-    requires { All (λ b. b < length targets.old) (target_bits target.now) }
-    ensures put { OnOk result (targets.new ≡ put_of (target_bits target.now) word.now targets.old) }
+/// Puts the saved literals back, and answers those that stood in their place.
+pub fn exchanged(alloc: Global, saved: Saved, targets: &mut [u32]) -> Result<Saved, Memory>
+    requires within { All (λ b. b < length targets.old) saved.bits.items }
+    requires long { length saved.literals.items ≡ length saved.bits.items }
+    ensures bits { IfOk result (λ s. s.bits.items ≡ saved.bits.items) }
+    ensures literals { IfOk result (λ s. s.literals.items ≡ map (literal_at targets.old) saved.bits.items) }
+    ensures targets { OnOk result (targets.new ≡ set_at saved.bits.items saved.literals.items targets.old) }
     ensures long { length targets.new ≡ length targets.old }
 {
-    let mut bits = Vec::new(alloc);
-    push_target(target, &mut bits)?;
-    put(&bits, word, targets);
-    Ok(())
+    let literals = picked(alloc, targets, &saved.bits)?;
+    set(&saved.bits, &saved.literals, targets);
+    Ok(Saved {
+        bits: saved.bits,
+        literals,
+    })
 }
 
-/// Chooses at each of the bits, by a condition, between the literal given for it and its own.
+/// Chooses at each of the bits, by a condition, between the literal saved for it and its own.
 #[tactic(auto, using(crate::proofs::Existing::keeping, crate::proofs::Chosen::choose_more))]
-pub fn choose(
-    aig: &mut Aig,
-    c: u32,
-    bits: &[Bit],
-    given: &[u32],
-    targets: &mut [u32],
-) -> Result<(), Memory>
+pub fn choose(aig: &mut Aig, c: u32, saved: &Saved, targets: &mut [u32]) -> Result<(), Memory>
     requires c_exists { IsLiteral aig.old c }
-    requires within { All (λ b. b < length targets.old) bits.now }
-    requires long { length given.now ≡ length bits.now }
-    requires given_exist { All (IsLiteral aig.old) given.now }
+    requires within { All (λ b. b < length targets.old) saved.now.bits.items }
+    requires long { length saved.now.literals.items ≡ length saved.now.bits.items }
+    requires saved_exist { All (IsLiteral aig.old) saved.now.literals.items }
     requires targets_exist { All (IsLiteral aig.old) targets.old }
-    ensures exact { OnOk result ((aig.new, targets.new) ≡ choose_at aig.old c bits.now given.now targets.old) }
+    ensures exact { OnOk result ((aig.new, targets.new) ≡ choose_at aig.old c saved.now.bits.items saved.now.literals.items targets.old) }
     ensures exist { OnOk result (All (IsLiteral aig.new) targets.new) }
     ensures long { length targets.new ≡ length targets.old }
     ensures kept { Extends aig.old aig.new }
 {
-    for (k, bit) in bits.iter().enumerate() {
-        let literal = bits::mux(aig, c, given[k], targets[*bit as usize])?;
+    for (k, bit) in saved.bits.iter().enumerate() {
+        let literal = bits::mux(aig, c, saved.literals[k], targets[*bit as usize])?;
         targets[*bit as usize] = literal;
     }
     Ok(())
@@ -100,10 +119,80 @@ fn pass(site: Option<u32>, path: u32, paths: &mut Vec<Passed>) -> Result<(), Mem
     Ok(())
 }
 
+/// Makes the gates of an assignment, which reads the settled literals, or else its targets.
+#[tactic(auto, using(crate::proofs::Existing::keeping))]
+fn assign(
+    aig: &mut Aig,
+    target: &Target,
+    value: &Expr,
+    clocked: bool,
+    settled: &[u32],
+    targets: &mut [u32],
+) -> Result<(), Memory>
+    requires target { TargetFormed target.now (length targets.old) }
+    requires wide { target_width target.now ≤ width_of value.now }
+    requires value { IsFormed value.now (length targets.old) }
+    requires settled_long { clocked ≡ true → length settled.now ≡ length targets.old }
+    requires settled_exist { All (IsLiteral aig.old) settled.now }
+    requires targets_exist { All (IsLiteral aig.old) targets.old }
+    ensures exact { OnOk result ((aig.new, targets.new) ≡ assign_of target.now value.now (cond clocked settled.now targets.old) aig.old targets.old) }
+    ensures exist { OnOk result (All (IsLiteral aig.new) targets.new) }
+    ensures long { length targets.new ≡ length targets.old }
+    ensures kept { Extends aig.old aig.new }
+{
+    let read = source(clocked, settled, targets);
+    let word = word(aig, value, read)?;
+    let indices = indices(aig, target, read)?;
+    put(aig, target, &word, &indices, targets)?;
+    Ok(())
+}
+
+/// Makes the literals of a branch under a path.
+#[tactic(auto, using(crate::proofs::Existing::keeping))]
+fn split(aig: &mut Aig, cond: &Expr, path: u32, read: &[u32]) -> Result<Fork, Memory>
+    requires formed { IsFormed cond.now (length read.now) }
+    requires path_exists { IsLiteral aig.old path }
+    requires read_exist { All (IsLiteral aig.old) read.now }
+    ensures exact { IfOk result (λ f. (aig.new, f) ≡ fork_of cond.now path read.now aig.old) }
+    ensures test_exists { IfOk result (λ f. IsLiteral aig.new f.test) }
+    ensures then_exists { IfOk result (λ f. IsLiteral aig.new f.then_path) }
+    ensures else_exists { IfOk result (λ f. IsLiteral aig.new f.else_path) }
+    ensures kept { Extends aig.old aig.new }
+{
+    let test = test(aig, cond, read)?;
+    let then_path = bits::and(aig, path, test)?;
+    let else_path = bits::and(aig, path, negated(test))?;
+    Ok(Fork {
+        test,
+        then_path,
+        else_path,
+    })
+}
+
+/// The literals of the bits that a body assigns.
+pub fn saved_in(alloc: Global, body: &Stmt, targets: &[u32]) -> Result<Saved, Memory>
+    requires { All (λ b. b < length targets.now) (targets_of body.now) }
+    ensures { IfOk result (λ s. IsSaved (targets_of body.now) targets.now s.bits.items s.literals.items) }
+{
+    let bits = assigned_in(alloc, body)?;
+    let saved = save(alloc, bits, targets)?;
+    Ok(saved)
+}
+
+/// The literals of the bits that one of two arms assigns.
+fn saved_in_arms(alloc: Global, yes: &Stmt, no: &Stmt, targets: &[u32]) -> Result<Saved, Memory>
+    requires { All (λ b. b < length targets.now) (targets_of yes.now ++ targets_of no.now) }
+    ensures { IfOk result (λ s. IsSaved (targets_of yes.now ++ targets_of no.now) targets.now s.bits.items s.literals.items) }
+{
+    let bits = assigned_in_arms(alloc, yes, no)?;
+    let saved = save(alloc, bits, targets)?;
+    Ok(saved)
+}
+
 /// Runs a body under a path literal. A clocked one reads the settled literals, another its targets.
 ///
 /// Takes time linear in the body for each level of branches in it, but for the logarithm that it takes to put
-/// the bits that a branch assigns in order.
+/// the bits that a branch assigns in order, and for each assignment the time of its gates.
 #[tactic(auto, using(crate::proofs::Existing::keeping))]
 pub fn run(
     aig: &mut Aig,
@@ -132,8 +221,7 @@ pub fn run(
             target,
             value,
         } => {
-            let x = word(aig, value, source(clocked, settled, targets))?;
-            put_target(alloc, target, &x, targets)?;
+            assign(aig, target, value, clocked, settled, targets)?;
             pass(*site, path, paths)?;
             Ok(())
         }
@@ -143,18 +231,30 @@ pub fn run(
             yes,
             no,
         } => {
-            let c = test(aig, cond, source(clocked, settled, targets))?;
-            let then_path = bits::and(aig, path, c)?;
-            let else_path = bits::and(aig, path, negated(c))?;
-            let assigned = assigned_in_arms(alloc, yes.get(), no.get())?;
-            let before = picked(alloc, targets, &assigned)?;
-            pass(Some(*site), then_path, paths)?;
-            run(aig, yes.get(), clocked, settled, then_path, targets, paths)?;
-            let then_literals = picked(alloc, targets, &assigned)?;
-            put(&assigned, &before, targets);
-            pass(Some(*site + 1), else_path, paths)?;
-            run(aig, no.get(), clocked, settled, else_path, targets, paths)?;
-            choose(aig, c, &assigned, &then_literals, targets)?;
+            let fork = split(aig, cond, path, source(clocked, settled, targets))?;
+            let before = saved_in_arms(alloc, yes.get(), no.get(), targets)?;
+            pass(Some(*site), fork.then_path, paths)?;
+            run(
+                aig,
+                yes.get(),
+                clocked,
+                settled,
+                fork.then_path,
+                targets,
+                paths,
+            )?;
+            let chosen = exchanged(alloc, before, targets)?;
+            pass(Some(*site + 1), fork.else_path, paths)?;
+            run(
+                aig,
+                no.get(),
+                clocked,
+                settled,
+                fork.else_path,
+                targets,
+                paths,
+            )?;
+            choose(aig, fork.test, &chosen, targets)?;
             Ok(())
         }
         Stmt::Block(all) => {

@@ -1,13 +1,17 @@
 // What a design costs.
 
-ghost use Rattle.std.specs.Prelude.{◌≡◌, ◌+◌, ◌*◌, IfOk};
-ghost use Rattle.design_core.specs.Exec.{width_of};
-ghost use Rattle.plain_blast.specs.Cost.{capped, bit_cost, expr_cost, stmt_cost, arm_bits, reset_cost, process_cost, cost_of};
+ghost use Rattle.std.specs.Prelude.{◌≡◌, ◌+◌, ◌*◌, ◌++◌, IfOk};
+ghost use Rattle.bit_exprs.specs.Cost.{capped, target_cost};
+ghost use Rattle.bit_exprs.specs.Cost as exprs;
+ghost use Rattle.plain_blast.specs.Assigned.{targets_of};
+ghost use Rattle.plain_blast.specs.Cost.{fork_cost, stmt_cost, arm_bits, reset_cost, process_cost, cost_of};
 
 use crate::assigned::{assigned_in, assigned_in_arms};
 use crate::phases::reset_of;
 use aig_core::Memory;
-use design_core::flat::{BinaryOp, Design, Expr, Process, Reset, Stmt};
+use bit_exprs::forms::{Expr, Target};
+use design_core::flat::{Design, Process, Reset, Stmt};
+use expr_cost::{target_cost, weigh};
 use std::alloc::Global;
 
 /// The sum, or the greatest number where that is less.
@@ -24,60 +28,33 @@ fn thrice(a: u64) -> u64
     plus(a, plus(a, a))
 }
 
-/// What an operator between words of this width costs.
-fn operator_cost(op: BinaryOp, width: u64) -> u64
-    ensures { result ≡ capped (bit_cost op * width) }
+/// What an assignment costs.
+fn assign_cost(target: &Target, value: &Expr) -> u64
+    ensures { result ≡ capped (exprs.cost_of value.now + target_cost target.now) }
 {
-    match op {
-        BinaryOp::And => width,
-        BinaryOp::Or => width,
-        BinaryOp::Xor => thrice(width),
-    }
+    plus(weigh(value).cost, target_cost(target))
 }
 
-/// What an expression costs, and how wide it is.
-#[derive(Clone, Copy)]
-struct Weight {
-    cost: u64,
-    width: usize,
-}
-
-fn weigh(expr: &Expr) -> Weight
-    ensures cost { result.cost ≡ capped (expr_cost expr.now) }
-    ensures width { result.width ≡ width_of expr.now }
+/// What a branch costs beside its arms.
+fn fork_cost(alloc: Global, cond: &Expr, yes: &Stmt, no: &Stmt) -> Result<u64, Memory>
+    ensures { IfOk result (λ r. r ≡ capped (fork_cost cond.now (targets_of yes.now ++ targets_of no.now))) }
 {
-    match expr {
-        Expr::Const(word) => Weight {
-            cost: 0,
-            width: word.len(),
-        },
-        Expr::Read(bits) => Weight {
-            cost: 0,
-            width: bits.len(),
-        },
-        Expr::Unary { op: _, value } => weigh(value.get()),
-        Expr::Binary { op, left, right } => {
-            let l = weigh(left.get());
-            let r = weigh(right.get());
-            let width = l.width.min(r.width);
-            let cost = plus(plus(l.cost, r.cost), operator_cost(*op, width as u64));
-            Weight { cost, width }
-        }
-    }
+    let assigned = assigned_in_arms(alloc, yes, no)?;
+    let choice = plus(2, thrice(assigned.len() as u64));
+    let test = weigh(cond);
+    Ok(plus(plus(test.cost, test.width), choice))
 }
 
 fn stmt_cost(alloc: Global, body: &Stmt) -> Result<u64, Memory>
     ensures { IfOk result (λ r. r ≡ capped (stmt_cost body.now)) }
 {
     match body {
-        Stmt::Assign { value, .. } => Ok(weigh(value).cost),
+        Stmt::Assign { target, value, .. } => Ok(assign_cost(target, value)),
         Stmt::Branch { cond, yes, no, .. } => {
-            let test = weigh(cond);
-            let assigned = assigned_in_arms(alloc, yes.get(), no.get())?;
-            let choice = plus(test.width as u64, plus(2, thrice(assigned.len() as u64)));
+            let fork = fork_cost(alloc, cond, yes.get(), no.get())?;
             let then_cost = stmt_cost(alloc, yes.get())?;
             let else_cost = stmt_cost(alloc, no.get())?;
-            Ok(plus(plus(test.cost, choice), plus(then_cost, else_cost)))
+            Ok(plus(fork, plus(then_cost, else_cost)))
         }
         Stmt::Block(all) => {
             let mut total = 0;
@@ -122,9 +99,9 @@ fn process_cost(alloc: Global, process: &Process) -> Result<u64, Memory>
 }
 
 /// What a design costs, a measure of the size of its circuit; the greatest number where it costs more.
-/// An operator costs 1 for each bit of its width, an exclusive or 3, a negation nothing; a branch costs the
-/// width of its condition, 2, and 3 for each bit that is assigned inside; an input bit costs 3, and so does a
-/// bit that a reset arm assigns.
+/// An assignment costs its value and its target, as `expr_cost` gives them; a branch costs its condition, the
+/// width of that, 2, and 3 for each bit that is assigned inside; an input bit costs 3, and so does a bit that a
+/// reset arm assigns.
 ///
 /// It takes memory to tell the bits that a branch assigns apart; the error is want of it. Takes time about
 /// linear in the design for each level of branches in it.

@@ -7,7 +7,6 @@ mod costs;
 mod phases;
 mod plain;
 mod points;
-mod words;
 
 pub use bit_system::Memory;
 pub use costs::cost;

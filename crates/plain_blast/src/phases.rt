@@ -8,11 +8,10 @@ ghost use Rattle.design_core.specs.Legality.{IsLegal, bodies};
 ghost use Rattle.plain_blast.specs.Plain.{leaves_at, active_of, reset_by, resets_of, run_each, clocked_of, wiring};
 ghost use Rattle.plain_blast.specs.Exist.{Exist};
 
-use crate::assigned::assigned_in;
-use crate::bodies::{Passed, choose, put, run};
-use crate::words::picked;
+use crate::bodies::{Passed, choose, exchanged, run, saved_in};
 use aig_core::{Aig, Memory, negated};
-use design_core::flat::{Bit, Design, ProcKind, Process, Reset, Stmt};
+use bit_exprs::forms::Bit;
+use design_core::flat::{Design, ProcKind, Process, Reset, Stmt};
 
 /// Gives each bit the literal of a node, from node `first` on.
 pub fn put_leaves(bits: &[Bit], first: u32, literals: &mut [u32])
@@ -81,14 +80,11 @@ fn reset(
     let Stmt::Branch { yes, .. } = body else {
         return Ok(());
     };
-    let assigned = assigned_in(alloc, yes.get())?;
-    let before = picked(alloc, targets, &assigned)?;
+    let before = saved_in(alloc, yes.get(), targets)?;
     let mut paths = Vec::new(alloc);
     run(aig, yes.get(), true, first, 1, targets, &mut paths)?;
-    let constants = picked(alloc, targets, &assigned)?;
-    put(&assigned, &before, targets);
-    let active = active(reset, first);
-    choose(aig, active, &assigned, &constants, targets)?;
+    let constants = exchanged(alloc, before, targets)?;
+    choose(aig, active(reset, first), &constants, targets)?;
     Ok(())
 }
 

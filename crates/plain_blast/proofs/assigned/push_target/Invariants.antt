@@ -1,6 +1,6 @@
 use Rattle.std.proofs.Common.{◌≡◌, ◌++◌, take}
 use Rattle.std.specs.Prelude.{flat_map}
-use Rattle.design_core.specs.Exec.{part_bits}
+use Rattle.bit_exprs.specs.Named.{part_bits}
 use Rattle.plain_blast.proofs.assigned.push_target.Given as goal
 
 abbrev pub invariant-loop-part : goal.invariant-loop-part

@@ -1,6 +1,7 @@
 use Rattle.std.proofs.Common.{◌≡◌, take}
 use Rattle.std.specs.List.{sum_by}
-use Rattle.plain_blast.specs.Cost.{capped, stmt_cost}
+use Rattle.bit_exprs.specs.Cost.{capped}
+use Rattle.plain_blast.specs.Cost.{stmt_cost}
 use Rattle.plain_blast.proofs.costs.+stmt_cost.Given as goal
 
 abbrev pub invariant-loop-s : goal.invariant-loop-s

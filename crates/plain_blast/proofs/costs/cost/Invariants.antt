@@ -1,6 +1,7 @@
 use Rattle.std.proofs.Common.{◌≡◌, ◌+◌, ◌*◌, length, take}
 use Rattle.std.specs.List.{sum_by}
-use Rattle.plain_blast.specs.Cost.{capped, process_cost}
+use Rattle.bit_exprs.specs.Cost.{capped}
+use Rattle.plain_blast.specs.Cost.{process_cost}
 use Rattle.plain_blast.proofs.costs.cost.Given as goal
 
 abbrev pub invariant-loop-process : goal.invariant-loop-process

@@ -3,7 +3,8 @@ use Rattle.std.proofs.lemmas.List.{length-map}
 use Rattle.design_core.specs.declared.flat.Design.{Design}
 use Rattle.aig_core.specs.Graph.{Graph, IsLiteral}
 use Rattle.aig_core.proofs.Values.{Extends-trans}
-use Rattle.plain_blast.specs.Plain.{literal_at, state_of, process_of, hits_of, plain_of}
+use Rattle.expr_blast.specs.Circuits.{literal_at}
+use Rattle.plain_blast.specs.Plain.{state_of, process_of, hits_of, plain_of}
 use Rattle.plain_blast.specs.Bridge.{Bridge}
 use Rattle.plain_blast.proofs.RunLaws.{bridge}
 use Rattle.plain_blast.proofs.Building.{is_plain, next_exist}

@@ -1,6 +1,0 @@
-use Rattle.std.proofs.Common.{◌≡◌, map, take}
-use Rattle.plain_blast.specs.Plain.{literal_at}
-use Rattle.plain_blast.proofs.words.picked.Given as goal
-
-abbrev pub invariant-loop-bit : goal.invariant-loop-bit
-invariant-loop-bit l = l.picked.items ≡ map (literal_at l.literals) (take l.bit-index l.bits)
