@@ -1,0 +1,9 @@
+pub mod Options
+pub mod Vectors
+pub mod Contexts
+pub mod Numbers
+pub mod Operators
+pub mod Formed
+pub mod Selects
+pub mod Elaboration
+pub mod Targets
