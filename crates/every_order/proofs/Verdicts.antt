@@ -1,6 +1,5 @@
 -- From the settled runs to those in every order.
 use Rattle.std.proofs.Common.{◌≡◌, [], Contains, get_or}
-use Rattle.vlog_syntax.specs.declared.module.Tree.{Tree}
 use Rattle.design_core.specs.declared.flat.Design.{Design}
 use Rattle.design_core.specs.declared.setup.Setup.{Setup}
 use Rattle.design_core.specs.Legality.{IsLegal}
@@ -13,7 +12,7 @@ use Rattle.source_check.specs.declared.points.Test.{Test}
 use Rattle.source_check.specs.declared.points.Test.TheVariants.{Passed}
 use Rattle.source_check.specs.Points.{points_of, hit_by}
 use Rattle.source_check.specs.Judging.{IsTrueOf}
-use Rattle.source_check.proofs.LegalDesigns.{text_design_is_legal}
+use Rattle.elab_flat.proofs.LegalDesigns.{design_is_legal}
 use Rattle.event_order.specs.Laws.{SameVerdicts}
 use Rattle.event_order.proofs.Main.{site_verdicts, stimulus_runs}
 use Rattle.every_order.specs.Truth.{IsTrueInEveryOrder, TrueInEveryOrder}
@@ -37,5 +36,5 @@ module _ (d : Design) (legal : IsLegal d []) where
 
 pub true_in_every_order : TrueInEveryOrder
 true_in_every_order tree cert claims (d, is, names, all) =
-    let legal : IsLegal d [] = text_design_is_legal tree cert.setup d is.design in
+    let legal : IsLegal d [] = design_is_legal tree cert.setup d is.design in
     (d, is, stimulus_runs d [] legal cert.setup, names, λ k c lt. told d legal cert (get_or claims k c) (all k c lt))

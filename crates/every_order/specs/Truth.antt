@@ -1,5 +1,5 @@
 -- What is told of a text's points, over the runs of the machine that takes its processes in any order.
-use Rattle.std.specs.Prelude.{ℕ, Bool, ◌≡◌, List, map, All, Contains}
+use Rattle.std.specs.Prelude.{Bool, ◌≡◌, List, map, All, Contains}
 use Rattle.vlog_syntax.specs.declared.module.Tree.{Tree}
 use Rattle.design_core.specs.declared.flat.Design.{Design}
 use Rattle.design_core.specs.declared.setup.Setup.{Setup}

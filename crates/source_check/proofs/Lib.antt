@@ -1,11 +1,4 @@
-pub mod Rows
-pub mod Trees
-pub mod Bodies
-pub mod Lookup
-pub mod Owning
-pub mod Forms
-pub mod Numbering
-pub mod LegalDesigns
+pub mod OneByOne
+pub mod Placing
 pub mod Systems
 pub mod Truth
-pub mod OneByOne

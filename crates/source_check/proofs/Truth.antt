@@ -26,7 +26,7 @@ use Rattle.source_check.specs.declared.points.Test.TheVariants.{Passed}
 use Rattle.source_check.specs.Points.{points_of, site_of, hit_by}
 use Rattle.source_check.specs.Ladders.{state_names, ladder_of}
 use Rattle.source_check.specs.Legal.{IsElaborated}
-use Rattle.source_check.proofs.LegalDesigns.{text_design_is_legal}
+use Rattle.elab_flat.proofs.LegalDesigns.{design_is_legal}
 use Rattle.source_check.specs.Judging.{JudgesClaims, AreTrue, Accepted, Holds, Shows, IsTrueOf, told, verdict_of}
 
 first_in : {X : Type 0} (x : X) (xs : List X) → Contains (x ∷ xs) x
@@ -98,7 +98,7 @@ pub true_where_judged :
     (result : Result (List Claim) CheckError) → JudgesClaims m d cert.setup (points_of d cert.setup) cert.claims result → IfOk result (λ claims. AreTrue tree cert claims)
 true_where_judged tree cert d m valid bridge plain is (Ok claims) h =
     let all = points_of d cert.setup in
-    let legal = text_design_is_legal tree cert.setup d is.design in
+    let legal = design_is_legal tree cert.setup d is.design in
     let P : List Claim → Type 0 = λ cs. (map (λ (c : Claim). c.point) cs ≡ map (λ (p : Point). p.name) all) × All (IsTrueClaim d legal cert m valid all bridge plain) cs in
     let stands : StandFrom d legal cert m valid all bridge plain 0 all = λ j p at. subst (λ n. slice_get all n ≡ Some p) (omega arith) at in
     let both : P claims = subst P (sym h.1) (same_points m d cert.setup 0 all cert.claims h.0, true_all d legal cert m valid all bridge plain 0 all cert.claims stands (λ p k. k) (λ c k. k) h.0) in

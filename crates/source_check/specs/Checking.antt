@@ -15,8 +15,7 @@ use Rattle.source_check.specs.declared.error.SourceError.TheVariants as source
 use Rattle.source_check.specs.declared.error.CheckError.{CheckError}
 use Rattle.source_check.specs.declared.error.CheckError.TheVariants.{Source, Cert as Unread, WrongPoint, Missing, NotHit, Ladder, Memory}
 use Rattle.source_check.specs.declared.points.Front.{Front}
-use Rattle.source_check.specs.Built.{IsBuilt}
-use Rattle.source_check.specs.Flat.{first_place}
+use Rattle.elab_flat.specs.Designs.{HasDesign, first_place}
 use Rattle.source_check.specs.Legal.{IsElaborated, TooCostly}
 use Rattle.source_check.specs.Points.{points_of}
 use Rattle.source_check.specs.Judging.{Judges, AreTrue}
@@ -69,6 +68,6 @@ abbrev pub FrontAnswers : List ℕ → Setup → Result Front SourceError → Ty
 FrontAnswers text setup (Ok front) =
     (tree : Tree) × TextAnswers text (Ok tree) × IsElaborated tree setup front.legal.design × (front.points ≡ points_of front.legal.design setup)
 FrontAnswers text setup (Err (source.Text error)) = TextRefused text error
-FrontAnswers text setup (Err (source.NotBuilt at)) = (tree : Tree) × TextAnswers text (Ok tree) × (IsBuilt tree setup → ⊥) × (at ≡ first_place tree)
+FrontAnswers text setup (Err (source.NotBuilt at)) = (tree : Tree) × TextAnswers text (Ok tree) × (HasDesign tree setup → ⊥) × (at ≡ first_place tree)
 FrontAnswers text setup (Err (source.CostOver cost)) = (tree : Tree) × TextAnswers text (Ok tree) × TooCostly tree setup cost
 FrontAnswers text setup (Err source.Memory) = Unit {0}

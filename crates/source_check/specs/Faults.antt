@@ -5,8 +5,8 @@ use Rattle.source_check.specs.declared.error.SourceError.{SourceError}
 use Rattle.source_check.specs.declared.error.SourceError.TheVariants as source
 use Rattle.source_check.specs.declared.error.CheckError.{CheckError}
 use Rattle.source_check.specs.declared.error.CheckError.TheVariants.{Source, Cert as Unread, Memory}
-use Rattle.source_check.specs.declared.flatten.FlatError.{FlatError}
-use Rattle.source_check.specs.declared.flatten.FlatError.TheVariants as flat
+use Rattle.elab_flat.specs.declared.elaborate.FlatError.{FlatError}
+use Rattle.elab_flat.specs.declared.elaborate.FlatError.TheVariants as flat
 
 abbrev pub source_fault : SourceError → CheckError
 source_fault (source.Text error) = Source (source.Text error)

@@ -25,9 +25,7 @@ use Rattle.source_check.specs.declared.error.SourceError.TheVariants as source
 use Rattle.source_check.specs.declared.error.CheckError.{CheckError}
 use Rattle.source_check.specs.declared.error.CheckError.TheVariants.{Source, Cert as Unread, WrongPoint, Missing, NotHit, Ladder, Memory}
 use Rattle.source_check.specs.declared.points.Point.{Point}
-use Rattle.source_check.specs.declared.points.Test.{Test}
-use Rattle.source_check.specs.Built.{IsBuilt}
-use Rattle.source_check.specs.Flat.{first_place}
+use Rattle.elab_flat.specs.Designs.{HasDesign, first_place}
 use Rattle.source_check.specs.Legal.{IsElaborated, TooCostly}
 use Rattle.source_check.specs.Points.{points_of, site_of, hit_by}
 use Rattle.source_check.specs.Ladders.{state_names, ladder_of, LadderRefused}
@@ -162,7 +160,7 @@ abbrev pub Judges : Tree → Cert → Result (List Claim) CheckError → Type 0
 Judges tree cert (Ok claims) =
     (d : Design) × IsElaborated tree cert.setup d × Accepted (system_of d cert.setup) d cert.setup 0 (points_of d cert.setup) cert.claims × (claims ≡ map told cert.claims)
 Judges tree cert (Err (Source (source.Text error))) = ⊥
-Judges tree cert (Err (Source (source.NotBuilt at))) = (IsBuilt tree cert.setup → ⊥) × (at ≡ first_place tree)
+Judges tree cert (Err (Source (source.NotBuilt at))) = (HasDesign tree cert.setup → ⊥) × (at ≡ first_place tree)
 Judges tree cert (Err (Source (source.CostOver cost))) = TooCostly tree cert.setup cost
 Judges tree cert (Err (Source source.Memory)) = ⊥
 Judges tree cert (Err (Unread error)) = ⊥

@@ -1,5 +1,5 @@
 -- The ladders of certificates, whose lemmas name state bits.
-use Rattle.std.specs.Prelude.{ℕ, ◌≡◌, List, map}
+use Rattle.std.specs.Prelude.{ℕ, List, map}
 use Rattle.std.specs.List.{position_or_len}
 use Rattle.std.specs.Str.{bytes_eq}
 use Rattle.bit_system.specs.declared.system.StateInfo.{StateInfo}
@@ -19,19 +19,20 @@ use Rattle.ladder_check.specs.Faults.{IsLadderFault}
 abbrev pub state_names : List StateInfo → List (List ℕ)
 state_names states = map (λ s. s.name) states
 
--- the number of the state bit with this name; where none has it, a number that none has either
+-- the number of the first state bit with this name; where none has it, a number that none has either
 abbrev pub state_of : List (List ℕ) → List ℕ → ℕ
 state_of names name = position_or_len (bytes_eq name) names
 
-abbrev pub lit_of : List (List ℕ) → NamedLit → StateLit
-lit_of names l = record { state = state_of names l.name; positive = l.positive }
+-- a literal and a lemma, where names have these numbers
+abbrev pub lit_of : (List ℕ → ℕ) → NamedLit → StateLit
+lit_of number l = record { state = number l.name; positive = l.positive }
 
-abbrev pub lemma_of : List (List ℕ) → NamedLemma → Lemma
-lemma_of names l = record { level = l.level; lits = map (lit_of names) l.lits }
+abbrev pub lemma_of : (List ℕ → ℕ) → NamedLemma → Lemma
+lemma_of number l = record { level = l.level; lits = map (lit_of number) l.lits }
 
 -- the ladder of this depth, with the numbers of state bits in place of their names
 abbrev pub ladder_of : List (List ℕ) → Depth → NamedLadder → Ladder
-ladder_of names depth l = record { depth = depth; lemmas = map (lemma_of names) l.lemmas; steps = l.steps; hit = l.hit }
+ladder_of names depth l = record { depth = depth; lemmas = map (lemma_of (state_of names)) l.lemmas; steps = l.steps; hit = l.hit }
 
 -- the ladder is refused for this reason, which isn't want of memory
 abbrev pub LadderRefused : Machine → ℕ → Ladder → LadderFault → Type 0

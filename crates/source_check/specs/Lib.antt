@@ -1,10 +1,7 @@
-pub mod Statements
-pub mod Built
-pub mod Flat
-pub mod Drivers
 pub mod Legal
 pub mod Points
 pub mod Ladders
+pub mod Places
 pub mod Judging
 pub mod Faults
 pub mod Checking

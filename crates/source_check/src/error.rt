@@ -1,7 +1,7 @@
 // Why a text has no design, and why a certificate isn't accepted.
 
-use crate::flatten::FlatError;
 use cert_text::CertError;
+use elab_flat::FlatError;
 use ladder_check::LadderFault;
 use std::alloc::AllocError;
 use vlog_modules::TextError;

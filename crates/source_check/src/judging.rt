@@ -1,20 +1,20 @@
 // From a tree and a certificate to claims that are true.
 
-ghost use Rattle.std.specs.Prelude.{◌≡◌, ◌↔◌, ◌<◌, ◌≤◌, ◌^◌, [], length, map, All, IsTrue, IfOk};
+ghost use Rattle.std.specs.Prelude.{◌≡◌, ◌↔◌, ◌<◌, ◌≤◌, ◌^◌, List, ℕ, [], length, map, All, IsTrue, IfOk};
 ghost use Rattle.aig_core.specs.Graph.{node_count};
 ghost use Rattle.bit_system.specs.Machine.{IsMachine};
 ghost use Rattle.design_core.specs.Verdicts.{HitAt};
 ghost use Rattle.plain_blast.specs.Plain.{plain_of};
 ghost use Rattle.plain_blast.specs.Bridge.{Bridge};
-ghost use Rattle.source_check.specs.Built.{AreDistinct};
 ghost use Rattle.source_check.specs.Points.{IsSiteBelow, site_of, hit_by};
-ghost use Rattle.source_check.specs.Ladders.{state_names};
+ghost use Rattle.source_check.specs.Ladders.{state_names, state_of};
+ghost use Rattle.source_check.specs.Places.{place_in};
 ghost use Rattle.source_check.specs.Judging.{IsRefusal, JudgesLadder, JudgesStimulus, JudgesBody, JudgesClaim, verdict_of, told, JudgesClaims, Judges, AreTrue};
 
 use crate::error::CheckError;
-use crate::flatten::scope::Scope;
-use crate::ladders::{check_named, names_of};
+use crate::ladders::check_named;
 use crate::legality::elaborate;
+use crate::places::{Places, places_of};
 use crate::points::{Point, Test, points};
 use bit_system::{Depth, System};
 use cert_text::{Body, Cert, CertClaim, Claim, NamedLadder, Verdict};
@@ -29,13 +29,13 @@ use std::alloc::{AllocError, Global};
 use vlog_syntax::Tree;
 use word_core::Name;
 
-/// What claims are judged by: a legal design, and its system with the names of the state bits.
+/// What claims are judged by: a legal design, and its system with the places of the state bits' names.
 #[derive(Drop)]
 struct Grounds<'a> {
     legal: &'a Legal,
     setup: &'a Setup,
     system: System,
-    names: Scope,
+    places: Places,
 }
 
 /// Whether the stimulus hits a point at this cycle and at none before.
@@ -79,18 +79,16 @@ fn judge_ladder(
     ladder: &NamedLadder,
     checker: &mut Checker,
 ) -> Result<(), CheckError>
-    requires names { grounds.now.names ≡ state_names grounds.now.system.states }
+    requires names { (name : List ℕ) → place_in grounds.now.places name ≡ state_of (state_names grounds.now.system.states) name }
     requires point { k < length grounds.now.system.hits }
     requires vars { checker.old.vars ≡ node_count grounds.now.system.graph }
     ensures judged { JudgesLadder grounds.now.system k point.now depth ladder.now result }
     ensures vars { checker.new.vars ≡ checker.old.vars }
 {
-    // Shows that the parts of the system fit.
-    let _states = grounds.system.states();
     match check_named(
         alloc,
         &grounds.system,
-        &grounds.names,
+        &grounds.places,
         k,
         depth,
         ladder,
@@ -138,7 +136,7 @@ fn judge_body(
 ) -> Result<(), CheckError>
     requires hold { grounds.now.setup.now.hold ≡ [] }
     requires site { IsSiteBelow (length grounds.now.legal.now.design.sites) point.now.test }
-    requires names { grounds.now.names ≡ state_names grounds.now.system.states }
+    requires names { (name : List ℕ) → place_in grounds.now.places name ≡ state_of (state_names grounds.now.system.states) name }
     requires point { k < length grounds.now.system.hits }
     requires vars { checker.old.vars ≡ node_count grounds.now.system.graph }
     ensures judged { JudgesBody grounds.now.system grounds.now.legal.now.design grounds.now.setup.now k point.now body.now result }
@@ -169,7 +167,7 @@ fn judge_claim(
 ) -> Result<(), CheckError>
     requires hold { grounds.now.setup.now.hold ≡ [] }
     requires site { IsSiteBelow (length grounds.now.legal.now.design.sites) point.now.test }
-    requires names { grounds.now.names ≡ state_names grounds.now.system.states }
+    requires names { (name : List ℕ) → place_in grounds.now.places name ≡ state_of (state_names grounds.now.system.states) name }
     requires point { k < length grounds.now.system.hits }
     requires vars { checker.old.vars ≡ node_count grounds.now.system.graph }
     ensures judged { JudgesClaim grounds.now.system grounds.now.legal.now.design grounds.now.setup.now k point.now claim.now result }
@@ -212,7 +210,7 @@ fn judge_claims(
 ) -> Result<Items<Claim>, CheckError>
     requires hold { grounds.now.setup.now.hold ≡ [] }
     requires sites { All (λ p. IsSiteBelow (length grounds.now.legal.now.design.sites) p.test) points.now }
-    requires names { grounds.now.names ≡ state_names grounds.now.system.states }
+    requires names { (name : List ℕ) → place_in grounds.now.places name ≡ state_of (state_names grounds.now.system.states) name }
     requires points { length points.now ≡ length grounds.now.system.hits }
     requires few { length points.now ≤ 2 ^ 32 }
     requires vars { checker.old.vars ≡ node_count grounds.now.system.graph }
@@ -279,18 +277,17 @@ fn judge_by(
 ) -> Result<Items<Claim>, CheckError>
     requires hold { setup.now.hold ≡ [] }
     requires sites { All (λ p. IsSiteBelow (length legal.now.design.sites) p.test) points.now }
-    requires distinct { AreDistinct (state_names system.states) }
     requires points { length points.now ≡ length system.hits }
     requires few { length points.now ≤ 2 ^ 32 }
     ensures { JudgesClaims system legal.now.design setup.now points.now claims.now result }
 {
-    let names = names_of(alloc, system.states())?;
+    let places = places_of(alloc, system.states())?;
     let mut checker = checker_for(alloc, &system)?;
     let grounds = Grounds {
         legal,
         setup,
         system,
-        names,
+        places,
     };
     judge_claims(alloc, &grounds, points, claims, &mut checker)
 }

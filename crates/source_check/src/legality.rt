@@ -3,9 +3,9 @@
 ghost use Rattle.source_check.specs.Legal.{Elaborates};
 
 use crate::error::SourceError;
-use crate::flatten::flatten;
 use design_core::legal::Legal;
 use design_core::setup::Setup;
+use elab_flat::flatten;
 use plain_blast::cost;
 use sqlite_items::Items;
 use std::alloc::Global;

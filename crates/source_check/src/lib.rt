@@ -3,10 +3,10 @@
 
 mod checking;
 mod error;
-mod flatten;
 mod judging;
 mod ladders;
 mod legality;
+mod places;
 mod points;
 mod reading;
 

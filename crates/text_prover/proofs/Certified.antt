@@ -23,8 +23,8 @@ use Rattle.source_check.specs.declared.points.Point.{Point}
 use Rattle.source_check.specs.Points.{points_of, site_of}
 use Rattle.source_check.specs.Legal.{IsElaborated}
 use Rattle.source_check.specs.Judging.{system_of, Accepted, verdict_of, told}
-use Rattle.source_check.proofs.LegalDesigns.{text_design_is_legal}
-use Rattle.source_check.proofs.Systems.{states_distinct, one_hit_each}
+use Rattle.elab_flat.proofs.LegalDesigns.{design_is_legal}
+use Rattle.source_check.proofs.Systems.{one_hit_each}
 use Rattle.source_check.proofs.Truth.{sites_of}
 use Rattle.text_prover.specs.Proving.{setup_of, units_of}
 use Rattle.text_prover.specs.Claims.{IsClaimFor, AreClaimsFor}
@@ -32,7 +32,7 @@ use Rattle.text_prover.specs.Making.{IsMade}
 use Rattle.text_prover.proofs.Holding.{some_at, no_prelude, accepted_made}
 use Rattle.text_prover.proofs.Fitting.{body_fits}
 use Rattle.text_prover.proofs.PointNames.{few_points, all_named}
-use Rattle.text_prover.proofs.StateNames.{module_name, top_is_name, clock_is_name, states_are_named}
+use Rattle.text_prover.proofs.StateNames.{module_name, top_is_name, clock_is_name, states_are_named, states_distinct}
 
 -- ---- the numbers of lines change nothing
 
@@ -90,7 +90,7 @@ module _ (text : List ℕ) (tree : Tree) (setup : Setup) (d : Design) (of_text :
         d,
         is,
         accepted_lined m d setup first_line 0 points claims
-            (accepted_made d (text_design_is_legal tree setup d is.design) setup (ap (λ (s : Setup). s.cycles) plain) bridge (states_distinct tree setup d (sites_of points) is.design) effort claims used made),
+            (accepted_made d (design_is_legal tree setup d is.design) setup (ap (λ (s : Setup). s.cycles) plain) bridge (states_distinct text tree setup d of_text is.design (sites_of points)) effort claims used made),
         refl,
       );
       units = made.units ∙ units_lined effort first_line claims;
@@ -124,7 +124,7 @@ module _ (text : List ℕ) (setup : Setup) (plain : setup ≡ setup_of setup.top
 
     its_system : system ≡ system_of legal.design setup
     its_system =
-        exact ∙ ap (λ order. plain_of legal.design order sites) (order_none legal.design legal.order is_legal (text_design_is_legal tree setup legal.design is.design))
+        exact ∙ ap (λ order. plain_of legal.design order sites) (order_none legal.design legal.order is_legal (design_is_legal tree setup legal.design is.design))
         ∙ ap (plain_of legal.design []) all_sites
 
     module _ (bridge : Bridge legal.design sites system) (effort : ℕ) (small : effort < 2 ^ 63) (claims : List CertClaim) (used : List ℕ) (made : AreClaimsFor system effort points claims used) where

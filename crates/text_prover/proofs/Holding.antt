@@ -19,7 +19,7 @@ use Rattle.source_check.specs.declared.points.Point.{Point}
 use Rattle.source_check.specs.declared.points.Test.{Test}
 use Rattle.source_check.specs.declared.points.Test.TheVariants.{Passed}
 use Rattle.source_check.specs.Points.{points_of, site_of, hit_by}
-use Rattle.source_check.specs.Built.{AreDistinct}
+use Rattle.elab_flat.specs.Designs.{AreDistinct}
 use Rattle.source_check.specs.Ladders.{state_names}
 use Rattle.source_check.specs.Judging.{system_of, Shows, Holds, Accepted, told}
 use Rattle.source_check.proofs.Truth.{sites_of}

@@ -1,9 +1,6 @@
 -- A text has one tree, one design and, for a certificate that is accepted, one answer.
 use Rattle.std.proofs.Common.{◌≡◌, ℕ, ◌+◌, List, [], ◌∷◌, Result, Ok, Err, refl, ap, ◌∙◌, sym, subst, inl, inr, arith}
 use Rattle.vlog_syntax.specs.declared.module.Tree.{Tree}
-use Rattle.vlog_tree.specs.declared.Tree as small_tree
-use Rattle.vlog_tree.specs.declared.Module.{Module}
-use Rattle.std.specs.Prelude.{Option, unwrap_or}
 use Rattle.design_core.specs.declared.flat.Design.{Design}
 use Rattle.design_core.specs.declared.setup.Setup.{Setup}
 use Rattle.vlog_modules.specs.declared.error.TextError.{TextError}
@@ -29,12 +26,11 @@ use Rattle.ladder_check.specs.declared.fault.LadderFault.{LadderFault}
 use Rattle.ladder_check.specs.declared.fault.LadderFault.TheVariants as ladder
 use Rattle.ladder_check.proofs.Refused.{refused}
 use Rattle.plain_blast.specs.Cost.{cost_of}
+use Rattle.elab_flat.proofs.OneDesign.{one_design}
 use Rattle.source_check.specs.declared.error.SourceError.TheVariants as source_error
 use Rattle.source_check.specs.declared.error.CheckError.{CheckError}
 use Rattle.source_check.specs.declared.error.CheckError.TheVariants as check_error
 use Rattle.source_check.specs.declared.points.Point.{Point}
-use Rattle.source_check.specs.Built.{IsModule}
-use Rattle.source_check.specs.Flat.{IsDesignOf, design_of}
 use Rattle.source_check.specs.Legal.{IsElaborated, TooCostly}
 use Rattle.source_check.specs.Ladders.{state_names, ladder_of, LadderRefused}
 use Rattle.source_check.specs.Points.{points_of}
@@ -65,18 +61,6 @@ not_unread bytes cert cert_error.Memory a b = b
 
 pub one_cert : (bytes : List ℕ) (cert other : Cert) → CertAnswers bytes (Ok cert) → CertAnswers bytes (Ok other) → cert ≡ other
 one_cert bytes cert other a b = one_certificate cert other a.0 b.0 (sym a.1 ∙ b.1)
-
--- a text is one module of the small language in one way
-one_module : (tree : Tree) (m n : Module) → IsModule tree m → IsModule tree n → m ≡ n
-one_module tree m n a b =
-    let same : m ∷ [] ≡ n ∷ [] = ap (λ (o : Option small_tree.Tree). (unwrap_or o (record { modules = [] })).modules) (sym a ∙ b) in
-    cc
-
--- a tree has one design
-pub one_design : (tree : Tree) (setup : Setup) (d e : Design) → IsDesignOf tree setup d → IsDesignOf tree setup e → d ≡ e
-one_design tree setup d e a b =
-    let same : a.0 ≡ b.0 = one_module tree a.0 b.0 a.1 b.1 in
-    a.3 ∙ (ap (λ (m : Module). design_of m setup) same ∙ sym b.3)
 
 -- ---- claims that are accepted have no fault
 
@@ -125,7 +109,7 @@ cheap_or_costly tree setup d cost a b =
 judged_once : (tree : Tree) (cert : Cert) (claims : List Claim) (answer : Result (List Claim) CheckError) → Judges tree cert (Ok claims) → Judges tree cert answer → GivesOnly claims answer
 judged_once tree cert claims (Ok others) a b = b.3 ∙ sym a.3
 judged_once tree cert claims (Err (check_error.Source (source_error.Text error))) a b = absurd b
-judged_once tree cert claims (Err (check_error.Source (source_error.NotBuilt place))) a b = absurd (b.0 (a.1.design.0, a.1.design.1, a.1.design.2))
+judged_once tree cert claims (Err (check_error.Source (source_error.NotBuilt place))) a b = absurd (b.0 (a.0, a.1.design))
 judged_once tree cert claims (Err (check_error.Source (source_error.CostOver cost))) a b = absurd (cheap_or_costly tree cert.setup a.0 cost a.1 b)
 judged_once tree cert claims (Err (check_error.Source source_error.Memory)) a b = absurd b
 judged_once tree cert claims (Err (check_error.Cert error)) a b = absurd b

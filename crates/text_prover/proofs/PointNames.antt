@@ -8,15 +8,17 @@ use Rattle.line_text.proofs.Cutting.{words_join}
 use Rattle.line_text.proofs.Words.{word_from}
 use Rattle.line_text.proofs.Numerals.{number_word}
 use Rattle.design_core.specs.declared.flat.Design.{Design}
+use Rattle.design_core.specs.declared.flat.Site.{Site}
 use Rattle.design_core.specs.declared.setup.Setup.{Setup}
 use Rattle.vlog_syntax.specs.declared.module.Tree.{Tree}
+use Rattle.elab_flat.specs.Bodies.{sites_from, arms_from}
+use Rattle.elab_flat.specs.Designs.{IsDesignOf}
+use Rattle.elab_flat.proofs.SiteCounts.{has_sites}
 use Rattle.cert_text.specs.Points.{IsName, IsPoint}
 use Rattle.cert_text.specs.Points.IsPoint.{statement}
 use Rattle.cert_text.proofs.Names.{name_word}
 use Rattle.source_check.specs.declared.points.Point.{Point}
 use Rattle.source_check.specs.declared.points.Test.TheVariants.{Passed}
-use Rattle.source_check.specs.Statements.{all_parts, assignments_in, branches_in}
-use Rattle.source_check.specs.Flat.{sites_from, arms_from, design_of, IsDesignOf}
 use Rattle.source_check.specs.Points.{points_from, points_of}
 
 -- ---- a point's name
@@ -59,18 +61,25 @@ module _ (path : List ℕ) where
       (point_named path ordinal named (omega (arith, small)))
       (points_named named (number + 1) (ordinal + 1) n branches (omega (arith, small)))
 
--- the design of a text has few points
-pub few_points : (tree : Tree) (setup : Setup) (d : Design) → IsDesignOf tree setup d → length (points_of d setup) ≤ 65536
-few_points tree setup d is = subst (λ (x : Design). length (points_of x setup) ≤ 65536) (sym is.3) (by setup.kinds.s)
-  where
-    by : (b : Bool) → length (cond b (points_from 0 (design_of is.0 setup).sites) []) ≤ 65536
-    by true = omega (arith, points_long is.0.name.name 0 1 (assignments_in (all_parts is.0.items)) (branches_in (all_parts is.0.items)), is.2.few_statements)
-    by false = omega arith
+module _ (tree : Tree) (setup : Setup) (d : Design) (is : IsDesignOf tree setup d) where
+  -- what holds of no points, and of those of the design's sites, holds of its points
+  of_points : (P : List Point → Type 0) → P [] → P (points_from 0 d.sites) → P (points_of d setup)
+  of_points P none all = by setup.kinds.s
+    where
+      by : (b : Bool) → P (cond b (points_from 0 d.sites) [])
+      by true = all
+      by false = none
 
--- and their names are lines that name points
-pub all_named : (tree : Tree) (setup : Setup) (d : Design) (is : IsDesignOf tree setup d) → IsName is.0.name.name → All Named (points_of d setup)
-all_named tree setup d is named = subst (λ (x : Design). All Named (points_of x setup)) (sym is.3) (by setup.kinds.s)
-  where
-    by : (b : Bool) → All Named (cond b (points_from 0 (design_of is.0 setup).sites) [])
-    by true = points_named is.0.name.name named 0 1 (assignments_in (all_parts is.0.items)) (branches_in (all_parts is.0.items)) (omega (arith, is.2.few_statements))
-    by false = All-nil Named
+  -- the design of a text has few points
+  pub few_points : length (points_of d setup) ≤ 65536
+  few_points =
+      let sites = has_sites tree setup d is in
+      of_points (λ ps. length ps ≤ 65536) (omega arith)
+      (omega (arith, ap (λ (ss : List Site). length (points_from 0 ss)) sites.are, points_long is.0.name.name 0 1 sites.statements sites.branches, sites.few))
+
+  -- and their names are lines that name points
+  pub all_named : IsName is.0.name.name → All Named (points_of d setup)
+  all_named named =
+      let sites = has_sites tree setup d is in
+      of_points (All Named) (All-nil Named)
+      (subst (λ (ss : List Site). All Named (points_from 0 ss)) (sym sites.are) (points_named is.0.name.name named 0 1 sites.statements sites.branches (omega (arith, sites.few))))

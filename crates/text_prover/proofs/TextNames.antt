@@ -1,6 +1,6 @@
--- The names in the tree of a text begin with a letter or `_`, and have visible bytes alone.
-use Rattle.std.proofs.Common.{◌≡◌, ℕ, Bool, true, false, cond, List, [], ◌∷◌, ◌++◌, Option, Some, None, map, refl, sym, ap, ◌∙◌, subst}
-use Rattle.std.specs.Prelude.{Ok, unwrap_or, option_map}
+-- The names in the tree of a text begin with a letter or `_`, and have visible bytes alone, of which none is `[`.
+use Rattle.std.proofs.Common.{◌≡◌, ℕ, Bool, true, false, cond, List, [], ◌∷◌, ◌++◌, refl, sym, ap, ◌∙◌, subst}
+use Rattle.std.specs.Prelude.{Ok}
 use Rattle.std.specs.List.{AllByRecursion}
 use Rattle.vlog_tokens.specs.declared.word.Word.TheVariants as w
 use Rattle.vlog_tokens.specs.Words.{word_of}
@@ -8,19 +8,10 @@ use Rattle.vlog_tokens.specs.Tokens.{Token}
 use Rattle.vlog_syntax.specs.declared.module.Tree.{Tree}
 use Rattle.vlog_syntax.specs.declared.module.Module.{Module}
 use Rattle.vlog_syntax.specs.declared.module.Port.{Port}
-use Rattle.vlog_syntax.specs.declared.module.Range.{Range}
 use Rattle.vlog_syntax.specs.declared.expr.Ident.{Ident}
-use Rattle.vlog_tree.specs.declared.Tree as small_tree
-use Rattle.vlog_tree.specs.declared.Module as small_module
-use Rattle.vlog_tree.specs.declared.Port as small_port
-use Rattle.vlog_tree.specs.declared.Item as small_item
-use Rattle.vlog_tree.specs.declared.Expr as small_expr
-use Rattle.vlog_built.specs.Options.{with_both, all_there, if_there}
-use Rattle.vlog_built.specs.Narrow.{ident_of as small_ident, expr_of, port_with, port_of, item_of, module_of, narrow}
 use Rattle.vlog_rules.specs.Grammar.{V, same, ident, port, comma_port, ports, module_form, source, rules}
 use Rattle.parsing.specs.Forms.{Form, run, within, Each, Spells, Stands}
 use Rattle.vlog_modules.specs.Answers.{TextAnswers}
-use Rattle.source_check.specs.Built.{IsModule}
 use Rattle.text_prover.proofs.TokenNames.{IsIdent, IsTokenOf, tokens_of, name_token}
 
 -- ---- the derivation
@@ -49,7 +40,7 @@ ident_named l x ts r all h =
     let here : AllByRecursion IsTokenOf (t ∷ []) = subst (AllByRecursion IsTokenOf) alone all in
     subst IsIdent (sym (ap (λ (i : Ident). i.name) is)) (name_token t here.0 (only_name t named))
 
-abbrev HasIdent : Port → Type 0
+abbrev pub HasIdent : Port → Type 0
 HasIdent p = IsIdent p.name.name
 
 port_named : (l : ℕ) (p : Port) (ts r : List Token) → AllByRecursion IsTokenOf ts → Spelled port l p ts r → HasIdent p
@@ -94,9 +85,9 @@ ports_named l ps ts r all h =
     let inner = (split us' vs' vs cut' outer).0 in
     subst (AllByRecursion HasIdent) (sym (is ∙ y_is)) (run_named l y.0 us' (vs' ++ r) inner inside)
 
-record HasNames (m : Module) : Type 0 where
-  name : IsIdent m.name.name
-  ports : AllByRecursion HasIdent m.ports
+pub record HasNames (m : Module) : Type 0 where
+  pub name : IsIdent m.name.name
+  pub ports : AllByRecursion HasIdent m.ports
 
 module_named : (l : ℕ) (m : Module) (ts r : List Token) → AllByRecursion IsTokenOf ts → Spelled module_form l m ts r → HasNames m
 unfolding module_form
@@ -114,81 +105,18 @@ module_named l m ts r all h =
       ports = subst (AllByRecursion HasIdent) (sym (ap (λ (x : Module). x.ports) is ∙ y_is)) (ports_named l y.0 us3 (vs3 ++ (vs'' ++ r)) all4 listed);
     }
 
--- the names of a text's modules
-wide_names : (text : List ℕ) (tree : Tree) → TextAnswers text (Ok tree) → (m : Module) × (tree.modules ≡ m ∷ []) × HasNames m
+-- a text has one module, whose names are these
+one_module : (text : List ℕ) (tree : Tree) → TextAnswers text (Ok tree) → (m : Module) × (tree.modules ≡ m ∷ []) × HasNames m
 unfolding source
-wide_names text tree h =
+one_module text tree h =
     let (short, tokens, divides, derived) = h in
     let (x, is, spelled') = derived.derived in
     (x, ap (λ (t : Tree). t.modules) is, module_named 256 x tokens [] (tokens_of text tokens divides) spelled')
 
--- ---- names are kept where the tree is one of the small language
-
-abbrev pub HasSmallIdent : small_port.Port → Type 0
-HasSmallIdent p = IsIdent p.name.name
-
-pub record HasSmallNames (m : small_module.Module) : Type 0 where
-  pub name : IsIdent m.name.name
-  pub ports : AllByRecursion HasSmallIdent m.ports
-
-not_some : {A : Type 0} (a : A) (o : Option A) → o ≡ None → o ≡ Some a → ⊥
-not_some a o e f = cc
-
-port_kept : (x : Port) (p : small_port.Port) → port_of x ≡ Some p → x.name.name ≡ p.name.name
-port_kept x p e = by x.range (if_there (option_map expr_of x.value)) e
-  where
-    by : (r : Option Range) (v : Option (Option small_expr.Expr)) → port_with x r v ≡ Some p → x.name.name ≡ p.name.name
-    by None (Some v) e = ap (λ o. (unwrap_or o p).name.name) e
-    by None None e = absurd (not_some p None refl e)
-    by (Some r) v e = absurd (not_some p None refl e)
-
-one_kept : (o : Option small_port.Port) (os : Option (List small_port.Port)) (ps : List small_port.Port) → ((p : small_port.Port) → o ≡ Some p → HasSmallIdent p) →
-    ((qs : List small_port.Port) → os ≡ Some qs → AllByRecursion HasSmallIdent qs) → with_both (λ x xs. x ∷ xs) o os ≡ Some ps → AllByRecursion HasSmallIdent ps
-one_kept None os ps one more e = absurd (not_some ps None refl e)
-one_kept (Some p) None ps one more e = absurd (not_some ps None refl e)
-one_kept (Some p) (Some qs) ps one more e =
-    let whole : p ∷ qs ≡ ps = ap (λ o. unwrap_or o ps) e in
-    subst (AllByRecursion HasSmallIdent) whole (one p refl, more qs refl)
-
-ports_kept : (xs : List Port) (ps : List small_port.Port) → AllByRecursion HasIdent xs → all_there (map port_of xs) ≡ Some ps → AllByRecursion HasSmallIdent ps
-ports_kept [] ps all e =
-    let none : [] ≡ ps = ap (λ o. unwrap_or o ps) e in
-    subst (AllByRecursion HasSmallIdent) none tt
-ports_kept (x ∷ xs) ps all e =
-    one_kept (port_of x) (all_there (map port_of xs)) ps (λ p h. subst IsIdent (port_kept x p h) all.0) (λ qs h. ports_kept xs qs all.1 h) e
-
-abbrev made : Module → List small_port.Port → List small_item.Item → small_module.Module
-made x ports items = record { at = x.at; name = small_ident x.name; ports = ports; items = items }
-
-module_kept : (x : Module) (m : small_module.Module) → HasNames x → module_of x ≡ Some m → HasSmallNames m
-module_kept x m names e = by (all_there (map port_of x.ports)) (all_there (map item_of x.items)) (λ qs h. ports_kept x.ports qs names.ports h) e
-  where
-    by : (ps : Option (List small_port.Port)) (is : Option (List small_item.Item)) → ((qs : List small_port.Port) → ps ≡ Some qs → AllByRecursion HasSmallIdent qs) →
-        with_both (made x) ps is ≡ Some m → HasSmallNames m
-    by None is kept e = absurd (not_some m None refl e)
-    by (Some ps) None kept e = absurd (not_some m None refl e)
-    by (Some ps) (Some is) kept e = record {
-      name = subst IsIdent (ap (λ o. (unwrap_or o m).name.name) e) names.name;
-      ports = subst (AllByRecursion HasSmallIdent) (ap (λ o. (unwrap_or o m).ports) e) (kept ps refl);
-    }
-
-abbrev tree_of : List small_module.Module → small_tree.Tree
-tree_of modules = record { modules = modules }
-
--- a text that is one module of the small language has one module, which becomes it
-one_module : (x : Module) (m : small_module.Module) (o : Option small_module.Module) → option_map tree_of (with_both (λ y ys. y ∷ ys) o (Some [])) ≡ Some (tree_of (m ∷ [])) → o ≡ Some m
-one_module x m None e = absurd (not_some (tree_of (m ∷ [])) None refl e)
-one_module x m (Some s) e =
-    let same : s ≡ m = (let k : s ∷ [] ≡ m ∷ [] = ap (λ o. (unwrap_or o (tree_of [])).modules) e in cc) in
-    ap Some same
-
-module_is : (tree : Tree) (x : Module) (m : small_module.Module) → tree.modules ≡ x ∷ [] → IsModule tree m → module_of x ≡ Some m
-unfolding narrow
-module_is tree x m one is =
-    one_module x m (module_of x) (ap (λ (ms : List Module). option_map tree_of (all_there (map module_of ms))) (sym one) ∙ is)
-
 -- the names of the one module of a text
-pub text_names : (text : List ℕ) (tree : Tree) (m : small_module.Module) → TextAnswers text (Ok tree) → IsModule tree m → HasSmallNames m
+pub text_names : (text : List ℕ) (tree : Tree) (m : Module) → TextAnswers text (Ok tree) → tree.modules ≡ m ∷ [] → HasNames m
 text_names text tree m h is =
-    let (x, one, names) = wide_names text tree h in
-    module_kept x m names (module_is tree x m one is)
+    let (x, one, names) = one_module text tree h in
+    let both : x ∷ [] ≡ m ∷ [] = sym one ∙ is in
+    let same : x ≡ m = cc in
+    subst HasNames same names

@@ -1,18 +1,22 @@
--- The tokens that are names begin with a letter or `_`, and have visible bytes alone.
-use Rattle.std.proofs.Common.{◌≡◌, ℕ, ◌<◌, ◌≤◌, Bool, true, false, cond, not, ◌&&◌, ◌||◌, eqb, ltb, leb, List, [], ◌∷◌, ◌++◌, length, Option, Some, None, Ok, Err, refl, sym, ap, ◌∙◌, subst, arith, codes, inl, inr, ⊎_elim}
+-- The tokens that are names begin with a letter or `_`, and have visible bytes alone, of which none is `[`.
+use Rattle.std.proofs.Common.{◌≡◌, ℕ, ◌<◌, ◌≤◌, Bool, true, false, cond, not, ◌||◌, eqb, ltb, leb, List, [], ◌∷◌, ◌++◌, length, Option, Some, None, Ok, Err, refl, sym, ap, ◌∙◌, arith, codes, decimal, ◌≢◌, ◌^◌, inl, inr}
 use Rattle.std.specs.Prelude.{is_some}
+use Rattle.std.specs.Str.Parse.{AllDigits}
 use Rattle.std.specs.List.{list_all, AllByRecursion}
 use Rattle.std.specs.Str.{bytes_eq}
 use Rattle.std.specs.Char.{is_ascii_alphabetic, is_ascii_alphanumeric}
 use Rattle.std.specs.Int.{is_in_range}
 use Rattle.std.proofs.lemmas.Bool.{false≢true, not-true, eqb-true, ne_eqb, leb-true, le-leb, lt-ltb, and_parts, and_from, or_cases, cases_cond}
+use Rattle.std.proofs.lemmas.Fmt.{decimal_is_IsNumeral}
+use Rattle.std.proofs.lemmas.List.Elements.{All-nil, All-cons}
+use Rattle.std.proofs.lemmas.Str.Parse.{tells_digits}
 use Rattle.line_text.proofs.Words.{same_bytes}
 use Rattle.word_core.specs.declared.place.Place.{Place}
 use Rattle.vlog_tokens.specs.declared.error.LexError.{LexError}
 use Rattle.vlog_tokens.specs.declared.error.LexError.TheVariants.{BadDirective}
 use Rattle.vlog_tokens.specs.declared.word.Word.{Word}
 use Rattle.vlog_tokens.specs.declared.word.Word.TheVariants as w
-use Rattle.vlog_tokens.specs.Bytes.{begins_name, goes_on, is_decimal, radix_of, is_digit_of}
+use Rattle.vlog_tokens.specs.Bytes.{begins_name, goes_on, is_decimal}
 use Rattle.vlog_tokens.specs.Numbers.{or_underscore, is_digits}
 use Rattle.vlog_tokens.specs.Words.{keywords, marks, lookup, keyword, mark, begins_number, unspelled, or_unspelled, or_mark, word_of}
 use Rattle.vlog_tokens.specs.Tokens as tokens
@@ -22,6 +26,7 @@ use Rattle.vlog_tokens.specs.Reads.{Reads, ends, stops, gap, token}
 use Rattle.vlog_tokens.specs.Directives.{LexAnswers}
 use Rattle.vlog_rules.specs.Grammar.{same}
 use Rattle.cert_text.specs.Points.{is_visible, is_name, IsName, begins_with, IsStateName}
+use Rattle.elab_flat.proofs.BitNames.{HasNoBracket}
 
 -- ---- bytes
 
@@ -73,13 +78,20 @@ all_visible (b ∷ bs) e =
 
 -- ---- names
 
--- a byte that begins a name, and visible bytes behind it
+no_bracket : (bs : List ℕ) → list_all goes_on bs ≡ true → HasNoBracket bs
+no_bracket [] e = All-nil (λ b. b ≢ 91)
+no_bracket (b ∷ bs) e =
+    let p = and_parts (goes_on b) (list_all goes_on bs) e in
+    All-cons (λ b. b ≢ 91) b bs (λ is. false≢true (sym (ap goes_on is) ∙ p.0)) (no_bracket bs p.1)
+
+-- a byte that begins a name, and visible bytes behind it, none of them `[`
 pub record IsIdent (name : List ℕ) : Type 0 where
   pub first : ℕ
   pub others : List ℕ
   pub whole : name ≡ first ∷ others
   pub begins : (65 ≤ first) × (first ≤ 122)
   pub visible : list_all is_visible others ≡ true
+  pub plain : HasNoBracket name
 
 all_append : (xs ys : List ℕ) → list_all is_visible xs ≡ true → list_all is_visible ys ≡ true → list_all is_visible (xs ++ ys) ≡ true
 all_append [] ys a b = b
@@ -105,6 +117,27 @@ scoped_state_name path name p n =
     let named : is_name whole ≡ true = and_from (ltb 0 (length whole)) (list_all is_visible whole) (lt-ltb 0 (length whole) (omega (arith, ap length same))) seen in
     let begun : begins_with 45 whole ≡ false = ap (begins_with 45) same ∙ ne_eqb p.first 45 (λ e. absurd (omega (arith, p.begins.0, e))) in
     and_from (is_name whole) (not (begins_with 45 whole)) named (ap not begun)
+
+-- nor does it with visible bytes behind it
+longer : (xs ys : List ℕ) → IsStateName xs → list_all is_visible ys ≡ true → IsStateName (xs ++ ys)
+longer [] ys named seen = absurd (false≢true named)
+longer (x ∷ xs) ys named seen =
+    let p = and_parts (is_name (x ∷ xs)) (not (begins_with 45 (x ∷ xs))) named in
+    let q = and_parts (ltb 0 (length (x ∷ xs))) (list_all is_visible (x ∷ xs)) p.0 in
+    let both = and_from (ltb 0 (length (x ∷ xs ++ ys))) (list_all is_visible (x ∷ xs ++ ys)) (lt-ltb 0 (length (x ∷ xs ++ ys)) (omega arith)) (all_append (x ∷ xs) ys q.1 seen) in
+    and_from (is_name (x ∷ xs ++ ys)) (not (begins_with 45 (x ∷ xs ++ ys))) both p.1
+
+digits_visible : (ds : List ℕ) → AllDigits 10 ds → list_all is_visible ds ≡ true
+digits_visible [] h = refl
+digits_visible (d ∷ ds) h =
+    let p = tells_digits.parts d ds h in
+    and_from (is_visible d) (list_all is_visible ds) (visible d (omega (arith, p.0.0), omega (arith, p.0.1))) (digits_visible ds p.1)
+
+-- an index behind it
+pub indexed_state_name : (name : List ℕ) (i : ℕ) → i < 2 ^ 64 → IsStateName name → IsStateName (name ++ codes "[" ++ decimal i ++ codes "]")
+indexed_state_name name i small named =
+    longer (name ++ codes "[" ++ decimal i) (codes "]")
+    (longer (name ++ codes "[") (decimal i) (longer name (codes "[") named refl) (digits_visible (decimal i) (decimal_is_IsNumeral i small).0.1)) refl
 
 -- ---- words of the grammar
 
@@ -209,7 +242,14 @@ not_sized [] more is begun = false≢true begun
 not_sized (b ∷ bs) more is begun = not_digits (b ∷ bs) begun is
 
 token_ident : (text : List ℕ) → IsToken text → begins_by text ≡ true → IsIdent text
-token_ident text (tokens.name b bs head rest) begun = record { first = b; others = bs; whole = refl; begins = begins b head; visible = all_visible bs rest }
+token_ident text (tokens.name b bs head rest) begun = record {
+  first = b;
+  others = bs;
+  whole = refl;
+  begins = begins b head;
+  visible = all_visible bs rest;
+  plain = All-cons (λ b. b ≢ 91) b bs (λ is. false≢true (sym (ap begins_name is) ∙ head)) (no_bracket bs rest);
+}
 token_ident text (tokens.system bs some rest) begun = absurd (false≢true begun)
 token_ident text (tokens.sign _ is) begun = absurd (not_mark text begun is)
 token_ident text (tokens.decimal _ is) begun = absurd (not_digits text begun is)

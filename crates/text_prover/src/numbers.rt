@@ -1,6 +1,6 @@
 // Whether certificates can hold the numbers of what was found out of a point.
 
-ghost use Rattle.std.specs.Prelude.{◌≡◌, ◌<◌, ◌^◌, map, sum_by, All, IsTrue};
+ghost use Rattle.std.specs.Prelude.{◌≡◌, ◌<◌, ◌^◌, ◌↔◌, map, sum_by, All, IsTrue};
 ghost use Rattle.std.specs.List.{AllByRecursion};
 ghost use Rattle.bit_system.specs.ProofLines.{seen};
 ghost use Rattle.proof_lines.specs.Spelling.{IsId, IsLiteral, Fits, Addition, Deletion};
@@ -13,13 +13,13 @@ use point_prover::Proved;
 
 /// Whether a line can name a clause by this number.
 fn is_id(id: u64) -> bool
-    ensures { IsTrue result → IsId id }
+    ensures { IsTrue result ↔ IsId id }
 {
     0 < id && id < 1 << 63
 }
 
 fn are_ids(ids: &[u64]) -> bool
-    ensures { IsTrue result → All IsId ids.now }
+    ensures { IsTrue result ↔ All IsId ids.now }
 {
     for id in ids {
         if !is_id(*id) {
@@ -39,7 +39,7 @@ fn literals_fit(lits: &[Lit])
 }
 
 fn addition_fits(id: u64, lits: &[Lit], hints: &[u64]) -> bool
-    ensures { IsTrue result → Fits (Addition id lits.now hints.now) }
+    ensures { IsTrue result ↔ Fits (Addition id lits.now hints.now) }
 {
     literals_fit(lits);
     if !is_id(id) {
@@ -49,7 +49,7 @@ fn addition_fits(id: u64, lits: &[Lit], hints: &[u64]) -> bool
 }
 
 fn deletion_fits(id: u64, ids: &[u64]) -> bool
-    ensures { IsTrue result → Fits (Deletion id ids.now) }
+    ensures { IsTrue result ↔ Fits (Deletion id ids.now) }
 {
     if !is_id(id) {
         return false;
@@ -58,7 +58,7 @@ fn deletion_fits(id: u64, ids: &[u64]) -> bool
 }
 
 fn line_fits(line: &Line) -> bool
-    ensures { IsTrue result → Fits (plain_line (seen line.now)) }
+    ensures { IsTrue result ↔ Fits (plain_line (seen line.now)) }
 {
     match line {
         Line::Add { id, lits, hints } => addition_fits(*id, lits.as_slice(), hints.as_slice()),
@@ -67,7 +67,7 @@ fn line_fits(line: &Line) -> bool
 }
 
 fn lines_fit(lines: &[Line]) -> bool
-    ensures { IsTrue result → All (λ line. Fits (plain_line (seen line))) lines.now }
+    ensures { IsTrue result ↔ All (λ line. Fits (plain_line (seen line))) lines.now }
 {
     for line in lines {
         if !line_fits(line) {
@@ -89,7 +89,7 @@ fn added(line: &Line) -> u64
 
 /// Whether the lines add fewer than 2^63 literals.
 fn few_added(lines: &[Line]) -> bool
-    ensures { IsTrue result → sum_by (λ line. added (seen line)) lines.now < 2 ^ 63 }
+    ensures { IsTrue result ↔ sum_by (λ line. added (seen line)) lines.now < 2 ^ 63 }
 {
     let mut total: u64 = 0;
     for line in lines {
@@ -99,7 +99,7 @@ fn few_added(lines: &[Line]) -> bool
 }
 
 fn proof_fits(proof: &Proof) -> bool
-    ensures { IsTrue result → FitsProof proof.now }
+    ensures { IsTrue result ↔ FitsProof proof.now }
 {
     let lines = proof.lines();
     if lines.len() as u64 >= 1 << 63 {
@@ -112,7 +112,7 @@ fn proof_fits(proof: &Proof) -> bool
 }
 
 fn proofs_fit(proofs: &[Proof]) -> bool
-    ensures { IsTrue result → All FitsProof proofs.now }
+    ensures { IsTrue result ↔ All FitsProof proofs.now }
 {
     for proof in proofs {
         if !proof_fits(proof) {
@@ -123,7 +123,7 @@ fn proofs_fit(proofs: &[Proof]) -> bool
 }
 
 fn hit_fits(hit: &Option<Proof>) -> bool
-    ensures { IsTrue result → FitsIfAny hit.now }
+    ensures { IsTrue result ↔ FitsIfAny hit.now }
 {
     match hit {
         Some(proof) => proof_fits(proof),
@@ -132,7 +132,7 @@ fn hit_fits(hit: &Option<Proof>) -> bool
 }
 
 fn ladder_fits(ladder: &Ladder) -> bool
-    ensures { IsTrue result → LadderFits ladder.now }
+    ensures { IsTrue result ↔ LadderFits ladder.now }
 {
     if ladder.lemmas.len() as u64 >= 1 << 63 {
         return false;
@@ -147,7 +147,7 @@ fn ladder_fits(ladder: &Ladder) -> bool
 /// lines name clauses by numbers from 1 to 2^63 - 1. The solver makes others only where it ends more conflicts
 /// than that, which nothing proves.
 pub fn numbers_fit(found: &Proved) -> bool
-    ensures { IsTrue result → NumbersFit found.now }
+    ensures { IsTrue result ↔ NumbersFit found.now }
 {
     match found {
         Proved::Excluded(ladder) => ladder_fits(ladder),

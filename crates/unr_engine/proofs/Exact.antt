@@ -25,9 +25,8 @@ use Rattle.source_check.specs.declared.error.SourceError.TheVariants as source_e
 use Rattle.source_check.specs.declared.error.CheckError.{CheckError}
 use Rattle.source_check.specs.declared.error.CheckError.TheVariants as check_error
 use Rattle.source_check.specs.declared.points.Point.{Point}
-use Rattle.source_check.specs.Flat.{IsDesignOf}
-use Rattle.text_prover.proofs.OneAnswer.{tree_or_error, one_design as design_once}
-use Rattle.source_check.specs.Built.{IsBuilt}
+use Rattle.elab_flat.proofs.OneDesign.{one_design}
+use Rattle.text_prover.proofs.OneAnswer.{tree_or_error}
 use Rattle.source_check.specs.Checking.{ReadAndJudged}
 use Rattle.bit_system.specs.Machine.{Machine}
 use Rattle.bit_system.specs.Accepted.{IsAccepted}
@@ -66,11 +65,6 @@ cert_or_none text cert cert_error.Memory a b = refl
 one_cert : (text : List ℕ) (cert other : Cert) → CertAnswers text (Ok cert) → CertAnswers text (Ok other) → cert ≡ other
 one_cert text cert other a b = one_certificate cert other a.0 b.0 (sym a.1 ∙ b.1)
 
--- a text has one design
-pub one_design : (tree : Tree) (setup : Setup) (d e : Design) → IsDesignOf tree setup d → IsDesignOf tree setup e → d ≡ e
-one_design tree setup d e a b =
-    design_once tree setup d e a b
-
 -- a ladder that is refused isn't accepted
 shows_or_not : (m : Machine) (k : ℕ) (l : Ladder) (f : LadderFault) → IsAccepted m k l → LadderRefused m k l f → ⊥
 shows_or_not m k l ladder.Shape a r = refused m k l ladder.Shape r (λ e. cc) a
@@ -105,9 +99,6 @@ accepted_or_fails tree cert claims fault a f =
     no_fault (system_of a.0 cert.setup) a.0 cert.setup 0 (points_of a.0 cert.setup) cert.claims fault a.2
     (let P : Design → Type 0 = λ d. FirstFault (system_of d cert.setup) d cert.setup 0 (points_of d cert.setup) cert.claims fault in subst P same f.2)
 
-pub built : (tree : Tree) (setup : Setup) (d : Design) → IsDesignOf tree setup d → IsBuilt tree setup
-built tree setup d a = (a.0, a.1, a.2)
-
 -- a design that may be taken doesn't cost too much
 pub cheap_or_costly : (tree : Tree) (setup : Setup) (d : Design) (cost : ℕ) → IsElaborated tree setup d → TooCostly tree setup cost → ⊥
 cheap_or_costly tree setup d cost a b =
@@ -118,7 +109,7 @@ cheap_or_costly tree setup d cost a b =
 
 accepted_or_none : (tree : Tree) (cert : Cert) (claims : List Claim) (error : CheckError) → Judges tree cert (Ok claims) → Judges tree cert (Err error) → check_status error ≡ 7
 accepted_or_none tree cert claims (check_error.Source (source_error.Text error)) a b = absurd b
-accepted_or_none tree cert claims (check_error.Source (source_error.NotBuilt place)) a b = absurd (b.0 (built tree cert.setup a.0 a.1.design))
+accepted_or_none tree cert claims (check_error.Source (source_error.NotBuilt place)) a b = absurd (b.0 (a.0, a.1.design))
 accepted_or_none tree cert claims (check_error.Source (source_error.CostOver cost)) a b = absurd (cheap_or_costly tree cert.setup a.0 cost a.1 b)
 accepted_or_none tree cert claims (check_error.Source source_error.Memory) a b = absurd b
 accepted_or_none tree cert claims (check_error.Cert error) a b = absurd b
@@ -140,7 +131,7 @@ fails_five tree cert fault f = (f.0, f.1)
 
 refused_for : (tree : Tree) (cert : Cert) (error : CheckError) → Judges tree cert (Err error) → RefusedFor tree cert.setup (check_status error)
 refused_for tree cert (check_error.Source (source_error.Text error)) b = absurd b
-refused_for tree cert (check_error.Source (source_error.NotBuilt place)) b = inl (refl, λ x. b.0 (built tree cert.setup x.0 x.1.design))
+refused_for tree cert (check_error.Source (source_error.NotBuilt place)) b = inl (refl, λ x. b.0 (x.0, x.1.design))
 refused_for tree cert (check_error.Source (source_error.CostOver cost)) b = inl (refl, λ x. cheap_or_costly tree cert.setup x.0 cost x.1 b)
 refused_for tree cert (check_error.Source source_error.Memory) b = absurd b
 refused_for tree cert (check_error.Cert error) b = absurd b

@@ -29,7 +29,7 @@ use Rattle.unr_engine.specs.Statuses.{source_status, refusal_status, status_of}
 use Rattle.unr_engine.specs.Messages.{message_of}
 use Rattle.unr_engine.specs.Outcome.{IsFrontOf, IsFrontOfFile, AreLoaded, loads_of, Written, failed_call, DeskKept, HasReason, Ran, Says, Outcome}
 use Rattle.unr_engine.specs.Promises.{AreTold, HasText, AreStored, Proves, ProofRefused, Fits, ListComesLast}
-use Rattle.unr_engine.proofs.Exact.{text_or_none, one_front, built, cheap_or_costly, text_four, same_or_memory}
+use Rattle.unr_engine.proofs.Exact.{text_or_none, one_front, cheap_or_costly, text_four, same_or_memory}
 use Rattle.unr_engine.proofs.Kept.{told_of, ran_of, apart, of_refusal, done_small, not_empty, zero_or_one}
 use Rattle.unr_engine.proofs.Runs.{tells_so}
 
@@ -156,7 +156,7 @@ design_or_none text setup (source.NotBuilt place) h r =
     let same = one_tree text h.tree r.0 h.of_text r.1 in
     let P : Tree → Type 0 = λ t. IsElaborated t setup h.design in
     let there = subst P same h.elaborated in
-    absurd (r.2 (built r.0 setup h.design there.design))
+    absurd (r.2 (h.design, there.design))
 design_or_none text setup (source.CostOver cost) h r =
     let same = one_tree text h.tree r.0 h.of_text r.1 in
     let P : Tree → Type 0 = λ t. IsElaborated t setup h.design in

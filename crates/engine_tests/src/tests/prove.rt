@@ -70,6 +70,18 @@ const SHIFT_REPORT: &str = "reached 12 S h #1|reached 0 S h #2|reached 0 S h #3|
     reached 0 S h #10|reached 0 S h #11|reached 0 S h #12|reached 0 S h #13|\
     points 13 excluded 0 reached 13 open 0|";
 
+// A sum as wide as its number, which has 32 bits: it is never 0.
+const WIDE_SUM: &[u8] = b"module w(input clk, input [7:0] a, output reg q); \
+    always @(posedge clk) if (a + 1 == 0) q <= 1'b1; else q <= 1'b0; endmodule";
+
+const WIDE_REPORT: &str = "excluded S w #1|reached 0 S w #2|points 2 excluded 1 reached 1 open 0|";
+
+// A sum of 8 bits.
+const BYTE_SUM: &[u8] = b"module s(input clk, input [7:0] a, output reg q); \
+    always @(posedge clk) if (a + 8'd1 == 8'd0) q <= 1'b1; else q <= 1'b0; endmodule";
+
+const BYTE_REPORT: &str = "reached 0 S s #1|reached 0 S s #2|points 2 excluded 0 reached 2 open 0|";
+
 // A run over the file u.v, and what it is to give. A bar stands for a line feed.
 #[derive(Clone, Copy)]
 struct Case<'a> {
@@ -223,9 +235,14 @@ fn tells_where_it_failed(rt: HostRuntime) -> Result<(), TestFail> {
 }
 
 #[test]
-fn finds_far_hits_and_invariants(rt: HostRuntime) -> Result<(), TestFail> {
+fn finds_far_hits_invariants_and_widths(rt: HostRuntime) -> Result<(), TestFail> {
     let alloc = rt.alloc();
-    for (top, text, report) in [("g", RING, RING_REPORT), ("h", SHIFT, SHIFT_REPORT)] {
+    for (top, text, report) in [
+        ("g", RING, RING_REPORT),
+        ("h", SHIFT, SHIFT_REPORT),
+        ("w", WIDE_SUM, WIDE_REPORT),
+        ("s", BYTE_SUM, BYTE_REPORT),
+    ] {
         let words = format!(in alloc; "prove u.v --top {top} --clock clk --out p")?;
         let mut files = Files::new(alloc);
         files.set(alloc, "u.v", text)?;

@@ -10,12 +10,9 @@ use Rattle.cert_text.specs.declared.cert.CertClaim.{CertClaim}
 use Rattle.cert_text.specs.declared.claim.Claim.{Claim}
 use Rattle.source_check.specs.declared.error.CheckError.{CheckError}
 use Rattle.source_check.specs.declared.points.Point.{Point}
-use Rattle.source_check.specs.Built.{AreDistinct}
 use Rattle.source_check.specs.Points.{points_of, site_of, IsSiteBelow}
-use Rattle.source_check.specs.Ladders.{state_names}
 use Rattle.source_check.specs.Judging.{system_of, JudgesClaims}
-use Rattle.source_check.proofs.LegalDesigns.{points_of_sites}
-use Rattle.source_check.proofs.Systems.{states_distinct, one_hit_each, few_points}
+use Rattle.source_check.proofs.Systems.{one_hit_each, few_points, points_of_sites}
 use Rattle.source_check.proofs.OneByOne.{judged_by}
 use Rattle.source_check.proofs.Truth.{sites_of, true_where_judged}
 use Rattle.source_check.proofs.judging.judge.Goals as goal
@@ -29,12 +26,6 @@ judge_by-requires-clause-sites c =
     let setup = c.args.cert.now.setup in
     let made = c.as_slice-listed.ensures ∙ c.in_ok-points.ensures ∙ ap (λ x. points_of x setup) c.design.ensures.design in
     subst (All (λ (p : Point). IsSiteBelow (length d.sites) p.test)) (sym made) (points_of_sites d setup)
-
-pub judge_by-requires-clause-distinct : goal.judge_by-requires-clause-distinct
-judge_by-requires-clause-distinct c =
-    let d = c.in_ok-legal.legal.design in
-    subst (λ (m : Machine). AreDistinct (state_names m.states)) (sym c.in_ok-system.ensures.exact)
-    (states_distinct c.args.tree.now c.args.cert.now.setup d (sites_of c.as_slice-listed.result.now) c.in_ok-legal.ensures.0.design)
 
 pub judge_by-requires-clause-points : goal.judge_by-requires-clause-points
 judge_by-requires-clause-points c =

@@ -4,4 +4,4 @@ use Rattle.cert_text.specs.Spelling.{added}
 use Rattle.text_prover.proofs.numbers.few_added.Given as goal
 
 abbrev pub invariant-loop-line : goal.invariant-loop-line
-invariant-loop-line l = l.total < 2 ^ 63 → sum_by (λ line. added (seen line)) (take l.line-index l.lines) ≤ l.total
+invariant-loop-line l = (l.total < 2 ^ 63 → sum_by (λ line. added (seen line)) (take l.line-index l.lines) ≤ l.total) × (l.total ≤ sum_by (λ line. added (seen line)) (take l.line-index l.lines))

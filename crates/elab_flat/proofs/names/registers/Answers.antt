@@ -1,0 +1,14 @@
+use Rattle.std.proofs.Common.{cond, []}
+use Rattle.expr_elab.specs.Vectors.{bits_of}
+use Rattle.elab_flat.specs.declared.nets.Net.{Net}
+use Rattle.elab_flat.specs.Nets.{is_register}
+use Rattle.elab_flat.proofs.Listed.{each_more, each_done}
+use Rattle.elab_flat.proofs.names.registers.Goals as goal
+
+pub loop-net-preserved : goal.loop-net-preserved
+loop-net-preserved c =
+    each_more (λ (n : Net). cond (is_register n) (bits_of n.vector) []) c.args.nets.now c.loop-net.net-index c.net-item.result c.loop-net.bits c.add_register.new.bits c.net-item.is c.loop-net-test.true
+    c.in_ok-add_register.ensures c.loop-net.invariant
+
+pub returns : goal.returns
+returns c = each_done (λ (n : Net). cond (is_register n) (bits_of n.vector) []) c.args.nets.now c.loop-net.net-index c.loop-net.bits c.loop-net-test.false c.loop-net.invariant

@@ -1,0 +1,6 @@
+pub mod Nets
+pub mod Bodies
+pub mod Assigned
+pub mod Driven
+pub mod Designs
+pub mod Owners
