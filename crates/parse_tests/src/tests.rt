@@ -1,0 +1,4 @@
+//! One file for each crate that is tried.
+mod expressions;
+mod printing;
+mod texts;

@@ -1,0 +1,9 @@
+pub mod Writing
+pub mod WordEquations
+pub mod Showing
+pub mod Following
+pub mod Texts
+pub mod Shown
+pub mod BareEquations
+pub mod Kept
+pub mod Again

@@ -1,0 +1,23 @@
+use Rattle.std.proofs.Common.{codes, ◌∷◌, map, sym, ap, ◌∙◌}
+use Rattle.std.specs.Prelude.{option_map}
+use Rattle.token_text.specs.Printing.{with_tokens}
+use Rattle.tree_text.specs.Words.{in_a_row, parenthesized, behind_if_there, expr_words, stmt_words}
+use Rattle.tree_text.proofs.Writing.{with_three, row_more, row_done}
+use Rattle.tree_text.proofs.WordEquations.{branch_words}
+use Rattle.tree_text.proofs.stmts.+stmt.Goals as goal
+
+pub write_stmt-returns-in_ok-write_else-in-If : goal.write_stmt-returns-in_ok-write_else-in-If
+write_stmt-returns-in_ok-write_else-in-If t c =
+    with_three c.args.out.now c.write_test.new.out c.write_stmt.new.out c.write_else.new.out
+    (codes "if" ∷ parenthesized (expr_words c.in-If.condition)) (stmt_words c.in-If.yes) (behind_if_there (codes "else") (option_map stmt_words c.in-If.no))
+    c.in_ok-write_test-in-If.ensures (c.in_ok-write_stmt-in-If.ensures ∙ ap (λ s. with_tokens c.write_test.new.out (stmt_words s)) c.get.ensures) c.in_ok-write_else-in-If.ensures
+    ∙ ap (λ z. with_tokens c.args.out.now z) (sym (ap stmt_words c.in-If.is ∙ branch_words c.in-If.at c.in-If.condition c.in-If.yes c.in-If.no))
+
+pub write_stmts-loop-s-preserved : goal.write_stmts-loop-s-preserved
+write_stmts-loop-s-preserved t c =
+    row_more stmt_words c.loop-s.out c.write_stmt.new.out (with_tokens c.args.out.now (in_a_row (map stmt_words c.args.stmts.now))) c.args.stmts.now c.loop-s.s-index c.s-item.result
+    c.s-item.is c.loop-s-test.true c.in_ok-write_stmt.ensures c.loop-s.invariant
+
+pub write_stmts-returns : goal.write_stmts-returns
+write_stmts-returns t c =
+    row_done stmt_words c.loop-s.out (with_tokens c.args.out.now (in_a_row (map stmt_words c.args.stmts.now))) c.args.stmts.now c.loop-s.s-index c.loop-s-test.false c.loop-s.invariant
