@@ -1,23 +1,29 @@
 -- Numbers stay the same while names are added.
-use Rattle.std.proofs.Common.{◌≡◌, ℕ, ◌+◌, ◌<◌, ◌≤◌, List, [], ◌∷◌, ◌++◌, map, length, get_or, take, refl, sym, ◌∙◌, ap, arith}
-use Rattle.std.specs.Prelude.{◌^◌, All as Each}
-use Rattle.std.proofs.lemmas.List.{append-nil, append_assoc, map-append, length-append, get_or_append_left, get_or_default, take_more}
-use Rattle.std.proofs.lemmas.List.Elements.{All-head, All-tail, All-push, All-append, All-nil}
-use Rattle.cnf_core.specs.Literal.{Literal, HaveVarsUpTo}
-use Rattle.clause_names.specs.Naming.{IsNaming, variable_at, named}
-use Rattle.clause_names.specs.Numbering.{Grows, IsNumberOf, IsNumbered, ClauseIsNumbered, AreNumbered}
+use Rattle.std.proofs.Common.{◌≡◌, ℕ, ◌+◌, ◌<◌, List, [], ◌∷◌, ◌++◌, map, length, get_or, take, refl, sym, ◌∙◌, ap, subst, arith, ◌⊎◌, inl, inr}
+use Rattle.std.specs.Prelude.{◌^◌, Contains, All as Each}
+use Rattle.std.proofs.lemmas.List.{append-nil, append_assoc, map-append, length-append, get_or_append_left, take_more}
+use Rattle.std.proofs.lemmas.List.Elements.{All-head, All-tail, All-push, All-append, All-cons, All-nil, Contains-get_or}
+use Rattle.cnf_core.specs.Literal.{Literal}
+use Rattle.clause_names.specs.Naming.{IsNaming, named}
+use Rattle.clause_names.specs.Numbering.{Grows, IsInClause, IsInClauses, IsNumbered, ClauseIsNumbered, AreNumbered}
 
 pub grows_none : (names : List ℕ) (F : ℕ → Type 0) → Grows names names F
-grows_none names F = record { more = []; longer = sym (append-nil names); naming = λ h. h; within = λ vars h each. each }
+grows_none names F = record { more = []; longer = sym (append-nil names); naming = λ h. h; such = All-nil F }
 
--- what grows twice grows, where what all has up to a variable each part has
-pub grows_twice : (a b c : List ℕ) (F G H : ℕ → Type 0) → ((vars : ℕ) → H vars → F vars) → ((vars : ℕ) → H vars → G vars) → Grows a b F → Grows b c G → Grows a c H
+-- what grows twice grows, by variables of both kinds
+pub grows_twice : (a b c : List ℕ) (F G H : ℕ → Type 0) → ((n : ℕ) → F n → H n) → ((n : ℕ) → G n → H n) → Grows a b F → Grows b c G → Grows a c H
 grows_twice a b c F G H left right f g = record {
   more = f.more ++ g.more;
   longer = g.longer ∙ ap (λ (xs : List ℕ). xs ++ g.more) f.longer ∙ append_assoc a f.more g.more;
   naming = λ h. g.naming (f.naming h);
-  within = λ vars h each. g.within vars (right vars h) (f.within vars (left vars h) each);
+  such = All-append H f.more g.more (λ k d low. left (get_or f.more k d) (f.such k d low)) (λ k d low. right (get_or g.more k d) (g.such k d low));
 }
+
+-- names that grew from that of 0 alone
+pub alone : (old new : List ℕ) (F : ℕ → Type 0) → old ≡ 0 ∷ [] → Grows old new F → Each (λ n. (n ≡ 0) ⊎ F n) new
+alone old new F first g =
+    subst (λ (ns : List ℕ). Each (λ n. (n ≡ 0) ⊎ F n) ns) (sym (g.longer ∙ ap (λ (ns : List ℕ). ns ++ g.more) first))
+    (All-cons (λ n. (n ≡ 0) ⊎ F n) 0 g.more (inl refl) (λ k d low. inr (g.such k d low)))
 
 pub named_longer : (old more : List ℕ) (l : Literal) → l.variable < length old → named (old ++ more) l ≡ named old l
 named_longer old more l low = ap (λ (n : ℕ). record { variable = n; positive = l.positive }) (get_or_append_left old more (2 ^ 31 + l.variable) l.variable low)
@@ -66,27 +72,27 @@ clause_more old new clauses numbered c numbers F a g n = record {
 
 pub literal_step : (first old new : List ℕ) (clause numbers all : List Literal) (i : ℕ) (l number : Literal) →
     i < length clause → l ≡ get_or clause i l → all ≡ numbers ++ number ∷ [] →
-    ClauseIsNumbered old (take i clause) numbers → Grows first old (λ vars. Each (λ l. l.variable ≤ vars) clause) → IsNaming old →
-    IsNumbered new l number → Grows old new (λ vars. l.variable ≤ vars) →
-    ClauseIsNumbered new (take (i + 1) clause) all × Grows first new (λ vars. Each (λ l. l.variable ≤ vars) clause) × IsNaming new
+    ClauseIsNumbered old (take i clause) numbers → Grows first old (IsInClause clause) → IsNaming old →
+    IsNumbered new l number → Grows old new (λ n. n ≡ l.variable) →
+    ClauseIsNumbered new (take (i + 1) clause) all × Grows first new (IsInClause clause) × IsNaming new
 literal_step first old new clause numbers all i l number low here pushed c g naming n h =
     let one : take (i + 1) clause ≡ take i clause ++ l ∷ [] = take_more clause i l low ∙ ap (λ (x : Literal). take i clause ++ x ∷ []) (sym here) in
-    let its : (vars : ℕ) → Each (λ l. l.variable ≤ vars) clause → l.variable ≤ vars = λ vars each. let less = each i l low in rw here less in (
-      rw (one, pushed) (literal_more old new (take i clause) numbers l number (λ vars. l.variable ≤ vars) c h n),
-      grows_twice first old new (λ vars. Each (λ l. l.variable ≤ vars) clause) (λ vars. l.variable ≤ vars) (λ vars. Each (λ l. l.variable ≤ vars) clause) (λ vars each. each) its g h,
+    let is_in : Contains clause l = rw here (Contains-get_or clause i l low) in (
+      rw (one, pushed) (literal_more old new (take i clause) numbers l number (λ k. k ≡ l.variable) c h n),
+      grows_twice first old new (IsInClause clause) (λ k. k ≡ l.variable) (IsInClause clause) (λ k h. h) (λ k e. (l, is_in, e)) g h,
       h.naming naming,
     )
 
 pub clause_step : (first old new : List ℕ) (clauses numbered all : List (List Literal)) (i : ℕ) (c numbers slice : List Literal) {count : ℕ} →
     i < count → count ≡ length clauses → c ≡ get_or clauses i [] → slice ≡ numbers → all ≡ numbered ++ slice ∷ [] →
-    AreNumbered old (take i clauses) numbered → Grows first old (λ vars. HaveVarsUpTo vars clauses) → IsNaming old →
-    ClauseIsNumbered new c numbers → Grows old new (λ vars. Each (λ l. l.variable ≤ vars) c) →
-    AreNumbered new (take (i + 1) clauses) all × Grows first new (λ vars. HaveVarsUpTo vars clauses) × IsNaming new
+    AreNumbered old (take i clauses) numbered → Grows first old (IsInClauses clauses) → IsNaming old →
+    ClauseIsNumbered new c numbers → Grows old new (IsInClause c) →
+    AreNumbered new (take (i + 1) clauses) all × Grows first new (IsInClauses clauses) × IsNaming new
 clause_step first old new clauses numbered all i c numbers slice below count_is here same pushed a g naming n h =
     let low : i < length clauses = omega arith in
     let one : take (i + 1) clauses ≡ take i clauses ++ c ∷ [] = take_more clauses i [] low ∙ ap (λ (x : List Literal). take i clauses ++ x ∷ []) (sym here) in
-    let its : (vars : ℕ) → HaveVarsUpTo vars clauses → Each (λ l. l.variable ≤ vars) c = λ vars each. rw here (each i [] low) in (
-      rw (one, pushed, same) (clause_more old new (take i clauses) numbered c numbers (λ vars. Each (λ l. l.variable ≤ vars) c) a h n),
-      grows_twice first old new (λ vars. HaveVarsUpTo vars clauses) (λ vars. Each (λ l. l.variable ≤ vars) c) (λ vars. HaveVarsUpTo vars clauses) (λ vars each. each) its g h,
+    let is_in : Contains clauses c = rw here (Contains-get_or clauses i [] low) in (
+      rw (one, pushed, same) (clause_more old new (take i clauses) numbered c numbers (IsInClause c) a h n),
+      grows_twice first old new (IsInClauses clauses) (IsInClause c) (IsInClauses clauses) (λ k h. h) (λ k h. (c, is_in, h)) g h,
       h.naming naming,
     )

@@ -1,11 +1,11 @@
 -- Names of variables.
-use Rattle.std.proofs.Common.{◌≡◌, ◌≢◌, ℕ, ◌+◌, ◌<◌, ◌≤◌, ◌==◌, Bool, true, false, cond, List, [], ◌∷◌, ◌++◌, length, get_or, refl, sym, ◌∙◌, ap, subst, arith, ◌⊎◌, inl, inr}
-use Rattle.std.specs.Prelude.{◌^◌, nat_eq, AllPairs, All as Each}
+use Rattle.std.proofs.Common.{◌≡◌, ◌≢◌, ℕ, ◌<◌, ◌≤◌, Bool, true, false, cond, List, [], ◌∷◌, ◌++◌, length, get_or, refl, sym, ◌∙◌, ap, arith, ◌⊎◌, inl, inr}
+use Rattle.std.specs.Prelude.{◌^◌, nat_eq, All as Each}
 use Rattle.std.specs.List.{IsDistinct, list_any}
 use Rattle.std.proofs.lemmas.Bool.{cases_lt, eqb-true}
 use Rattle.std.proofs.lemmas.Bool.Decides.{Decides-eqb}
 use Rattle.std.proofs.lemmas.List.{get_or_default, get_or_append_left}
-use Rattle.std.proofs.lemmas.List.Elements.{All-head, All-tail, All-push}
+use Rattle.std.proofs.lemmas.List.Elements.{All-head, All-tail, All-push, All-nil}
 use Rattle.std.proofs.lemmas.Map.Made.{AllPairs-from_IsDistinct}
 use Rattle.std.proofs.lemmas.Map.Steps.{length-le_from_distinct_below}
 use Rattle.indexmap.specs.IndexSet.{insert_key}
@@ -44,13 +44,13 @@ pub few_names : (most : ℕ) (names : List ℕ) → IsDistinct nat_eq names → 
 few_names most names apart small = length-le_from_distinct_below names most apart (λ q. below_any most names q small)
 
 -- what putting a name among the others does
-pub inserted : (old new : List ℕ) (variable : ℕ) → new ≡ insert_key nat_eq old variable → IsDistinct nat_eq new → variable < 2 ^ 31 → Grows old new (λ vars. variable ≤ vars)
+pub inserted : (old new : List ℕ) (variable : ℕ) → new ≡ insert_key nat_eq old variable → IsDistinct nat_eq new → variable < 2 ^ 31 → Grows old new (λ n. n ≡ variable)
 inserted old new variable is apart small = by (list_any (nat_eq variable) old) refl
   where
-    by : (b : Bool) → list_any (nat_eq variable) old ≡ b → Grows old new (λ vars. variable ≤ vars)
+    by : (b : Bool) → list_any (nat_eq variable) old ≡ b → Grows old new (λ n. n ≡ variable)
     by true t =
         let same : new ≡ old = is ∙ ap (λ (b : Bool). cond b old (old ++ variable ∷ [])) t in
-        rw same (grows_none old (λ vars. variable ≤ vars))
+        rw same (grows_none old (λ n. n ≡ variable))
     by false t =
         let same : new ≡ old ++ variable ∷ [] = is ∙ ap (λ (b : Bool). cond b old (old ++ variable ∷ [])) t in
         record {
@@ -61,5 +61,5 @@ inserted old new variable is apart small = by (list_any (nat_eq variable) old) r
             apart = apart;
             variables = rw same (All-push (λ n. n < 2 ^ 31) old variable h.variables small);
           };
-          within = λ vars le each. rw same (All-push (λ n. n ≤ vars) old variable each le);
+          such = All-push (λ n. n ≡ variable) [] variable (All-nil (λ n. n ≡ variable)) refl;
         }

@@ -1,11 +1,11 @@
 -- Lines that refute clauses go on doing so where each variable is replaced by another one of its own.
-use Rattle.std.proofs.Common.{◌≡◌, ◌≢◌, ℕ, ◌+◌, ◌<◌, ◌≤◌, ◌==◌, Bool, true, false, not, ◌&&◌, ◌||◌, List, [], ◌∷◌, ◌++◌, map, length, get_or, Option, Some, None, Ok, Err, zero, suc, refl, sym, ◌∙◌, ap, arith}
-use Rattle.std.specs.Prelude.{All as Each, AllPairs}
+use Rattle.std.proofs.Common.{◌≡◌, ◌≢◌, ℕ, ◌+◌, ◌<◌, ◌≤◌, ◌==◌, Bool, true, false, List, [], ◌∷◌, map, length, get_or, Option, Some, None, Ok, Err, zero, suc, refl, sym, ◌∙◌, ap, arith}
+use Rattle.std.specs.Prelude.{AllPairs}
 use Rattle.std.proofs.lemmas.Bool.{eqb-true, eq-eqb, ne_eqb}
 use Rattle.std.proofs.lemmas.List.{map-append, length-map}
 use Rattle.std.proofs.lemmas.List.Elements.{All-map}
-use Rattle.cnf_core.specs.Literal.{Literal, negated, same_literal, clause_true, Solves, HaveNoSolution}
-use Rattle.cnf_core.specs.Lrat.{Entry, State, clause_at, is_false, open_lits, make_true, read_open, read_hints, HasGoodVars, Rup, remove_clause, delete_all, is_empty, added, Passes, Closes, numbered, start, Refutes}
+use Rattle.cnf_core.specs.Literal.{Literal, negated, clause_true, Solves, HaveNoSolution}
+use Rattle.cnf_core.specs.Lrat.{Entry, State, clause_at, is_false, open_lits, make_true, read_open, read_hints, HasGoodVars, remove_clause, delete_all, is_empty, added, Passes, Closes, numbered, start, Refutes}
 use Rattle.cnf_core.specs.declared.Line.{Line}
 use Rattle.cnf_core.specs.declared.Line.TheVariants.{Add, Delete}
 use Rattle.bit_system.specs.ProofLines.{ProofLine, addition, deletion, seen}

@@ -1,5 +1,5 @@
 -- Names: the variable for each number, and what literals and lines of a proof say in the variables themselves.
-use Rattle.std.specs.Prelude.{◌≡◌, ℕ, ◌+◌, ◌<◌, ◌^◌, nat_eq, List, map, length, slice_index_or, All as Each}
+use Rattle.std.specs.Prelude.{◌≡◌, ℕ, ◌+◌, ◌<◌, ◌^◌, nat_eq, List, map, slice_index_or, All as Each}
 use Rattle.std.specs.List.{IsDistinct}
 use Rattle.cnf_core.specs.Literal.{Literal}
 use Rattle.bit_system.specs.ProofLines.{ProofLine, addition, deletion}

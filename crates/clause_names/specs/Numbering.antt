@@ -1,6 +1,6 @@
 -- Clauses over dense variables.
-use Rattle.std.specs.Prelude.{◌≡◌, ℕ, ◌<◌, ◌≤◌, List, ◌++◌, map, length, slice_index_or, All as Each}
-use Rattle.cnf_core.specs.Literal.{Literal, HaveVarsUpTo}
+use Rattle.std.specs.Prelude.{◌≡◌, ℕ, ◌<◌, ◌⊎◌, List, ◌++◌, map, length, slice_index_or, Contains, All as Each}
+use Rattle.cnf_core.specs.Literal.{Literal}
 use Rattle.clause_names.specs.Naming.{IsNaming, named}
 use Rattle.clause_names.specs.declared.numbering.Numbered.{Numbered}
 
@@ -22,15 +22,23 @@ pub record AreNumbered (names : List ℕ) (clauses numbered : List (List Literal
   pub below : Each (λ c. Each (λ l. l.variable < length names) c) numbered
   pub same : map (map (named names)) numbered ≡ clauses
 
--- names are added behind the old ones, of variables that are at most `vars` where what is numbered has none above it
-pub record Grows (old new : List ℕ) (HasUpTo : ℕ → Type 0) : Type 0 where
+-- the variable of a literal of the clause
+abbrev pub IsInClause : List Literal → ℕ → Type 0
+IsInClause clause n = (l : Literal) × Contains clause l × (n ≡ l.variable)
+
+-- the variable of a literal of one of the clauses
+abbrev pub IsInClauses : List (List Literal) → ℕ → Type 0
+IsInClauses clauses n = (c : List Literal) × Contains clauses c × IsInClause c n
+
+-- names are added behind the old ones, of such variables alone
+pub record Grows (old new : List ℕ) (IsSuch : ℕ → Type 0) : Type 0 where
   pub more : List ℕ
   pub longer : new ≡ old ++ more
   pub naming : IsNaming old → IsNaming new
-  pub within : (vars : ℕ) → HasUpTo vars → Each (λ n. n ≤ vars) old → Each (λ n. n ≤ vars) new
+  pub such : Each IsSuch more
 
--- the clauses over dense variables are these, by the names, which are of their variables alone
+-- the clauses over dense variables are these, by the names, which but for 0 are of their variables alone
 pub record IsNumbering (clauses : List (List Literal)) (n : Numbered) : Type 0 where
   pub naming : IsNaming n.names.keys
   pub numbered : AreNumbered n.names.keys clauses n.clauses
-  pub within : (vars : ℕ) → HaveVarsUpTo vars clauses → Each (λ k. k ≤ vars) n.names.keys
+  pub alone : Each (λ k. (k ≡ 0) ⊎ IsInClauses clauses k) n.names.keys

@@ -1,8 +1,7 @@
 //! Clauses over dense variables.
-ghost use Rattle.std.specs.Prelude.{◌≡◌, ◌+◌, ◌<◌, ◌≤◌, ◌^◌, [], ◌∷◌, All, length, IfOk, OnOk};
-ghost use Rattle.cnf_core.specs.Literal.{HaveVarsUpTo};
+ghost use Rattle.std.specs.Prelude.{◌≡◌, ◌+◌, ◌<◌, ◌≤◌, ◌^◌, [], ◌∷◌, length, IfOk, OnOk};
 ghost use Rattle.clause_names.specs.Naming.{IsNaming};
-ghost use Rattle.clause_names.specs.Numbering.{Grows, IsNumberOf, IsNumbered, ClauseIsNumbered, AreNumbered, IsNumbering};
+ghost use Rattle.clause_names.specs.Numbering.{Grows, IsInClause, IsInClauses, IsNumberOf, IsNumbered, ClauseIsNumbered, AreNumbered, IsNumbering};
 ghost use Rattle.clause_names.specs.Laws.{NumberedClausesAreAsUnsolvable};
 
 use cnf_core::{Clauses, Lit, Memory};
@@ -27,7 +26,7 @@ fn number_of(names: &mut IndexSet<u32>, variable: u32) -> Result<u32, Memory>
     requires naming { IsNaming names.old.keys }
     ensures number { IfOk result (IsNumberOf names.new.keys variable) }
     ensures small { IfOk result (λ k. k < 2 ^ 31) }
-    ensures grows { OnOk result (Grows names.old.keys names.new.keys (λ vars. variable ≤ vars)) }
+    ensures grows { OnOk result (Grows names.old.keys names.new.keys (λ n. n ≡ variable)) }
 {
     if names.len() >= GREATEST {
         return Err(AllocError);
@@ -42,7 +41,7 @@ fn number_of(names: &mut IndexSet<u32>, variable: u32) -> Result<u32, Memory>
 fn number_literal(names: &mut IndexSet<u32>, literal: Lit) -> Result<Lit, Memory>
     requires { IsNaming names.old.keys }
     ensures numbered { IfOk result (IsNumbered names.new.keys literal) }
-    ensures grows { OnOk result (Grows names.old.keys names.new.keys (λ vars. literal.variable ≤ vars)) }
+    ensures grows { OnOk result (Grows names.old.keys names.new.keys (λ n. n ≡ literal.variable)) }
 {
     let number = number_of(names, literal.variable())?;
     Ok(Lit::make(number, literal.is_positive()))
@@ -55,7 +54,7 @@ fn number_clause(
 ) -> Result<Vec<Lit>, Memory>
     requires { IsNaming names.old.keys }
     ensures numbered { IfOk result (λ c. ClauseIsNumbered names.new.keys clause.now c.items) }
-    ensures grows { OnOk result (Grows names.old.keys names.new.keys (λ vars. All (λ l. l.variable ≤ vars) clause.now)) }
+    ensures grows { OnOk result (Grows names.old.keys names.new.keys (IsInClause clause.now)) }
 {
     let mut numbers = Vec::new(alloc);
     for literal in clause {
@@ -71,7 +70,7 @@ fn number_all(
 ) -> Result<Clauses, Memory>
     requires { IsNaming names.old.keys }
     ensures numbered { IfOk result (AreNumbered names.new.keys clauses.now) }
-    ensures grows { OnOk result (Grows names.old.keys names.new.keys (λ vars. HaveVarsUpTo vars clauses.now)) }
+    ensures grows { OnOk result (Grows names.old.keys names.new.keys (IsInClauses clauses.now)) }
 {
     let mut numbered = Clauses::new(alloc);
     for at in 0..clauses.len() {

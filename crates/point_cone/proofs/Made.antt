@@ -1,24 +1,23 @@
 -- The circuit of marked nodes, and the cone over it.
-use Rattle.std.proofs.Common.{◌≡◌, ◌≢◌, ℕ, ◌+◌, ◌-◌, ◌*◌, ◌/◌, ◌%◌, ◌<◌, ◌≤◌, ◌⊎◌, inl, inr, nat_lt, nat_eq, zero, suc, Bool, true, false, cond, None, List, [], ◌∷◌, ◌++◌, length, get_or, replicate, refl, sym, ap, ◌∙◌, subst, arith, length-append, map}
-use Rattle.std.specs.Prelude.{All, AllPairs}
-use Rattle.std.proofs.lemmas.Bool.{cases_lt, true≢false, lt-ltb}
+use Rattle.std.proofs.Common.{◌≡◌, ℕ, ◌+◌, ◌-◌, ◌*◌, ◌/◌, ◌<◌, inl, inr, nat_lt, zero, suc, Bool, true, false, None, List, [], ◌∷◌, ◌++◌, length, get_or, replicate, refl, sym, ap, ◌∙◌, subst, arith, length-append, map}
+use Rattle.std.specs.Prelude.{All}
+use Rattle.std.proofs.lemmas.Bool.{cases_lt, lt-ltb}
 use Rattle.std.proofs.lemmas.Bool.Decides.{nat_tests}
 use Rattle.std.proofs.lemmas.List.{get_or_append_left, get_or-append-add, get_or-map, get_or-replicate, get_or_default, length-map, length-replicate}
 use Rattle.std.proofs.lemmas.List.Elements.{All-nil, All-cons, All-head, All-tail, All-map, All-weaker}
 use Rattle.aig_core.specs.declared.gate.Gate.{Gate}
-use Rattle.aig_core.specs.Graph.{Graph, first_gate, node_count, IsLiteral, ReadEarlierNodes, gate_value, value_in, node_values, value_of}
+use Rattle.aig_core.specs.Graph.{Graph, first_gate, node_count, IsLiteral, ReadEarlierNodes, node_values, value_of}
 use Rattle.aig_core.proofs.Values.{get_or-values_with, value_in-node}
 use Rattle.bit_system.specs.declared.system.StateInfo.{StateInfo}
 use Rattle.bit_system.specs.Machine.{Machine, IsMachine, PartsFit, IsState, IsInput, next_literal, hit_literal, next_state, value_in_step}
 use Rattle.bit_system.specs.Queries.{first_state}
 use Rattle.bit_system.proofs.Earlier.{reads_at}
-use Rattle.point_cone.specs.Reaching.{on, gate_of, reads, IsNeeded, IsDone, AreDone, IsReached}
-use Rattle.point_cone.specs.Parts.{part, ArePlaces, info_at, infos_at, IsCone}
+use Rattle.point_cone.specs.Reaching.{on, reads, IsNeeded, IsDone, AreDone, IsReached}
+use Rattle.point_cone.specs.Parts.{part, info_at, infos_at, IsCone}
 use Rattle.point_cone.specs.Naming.{name_of, Renamed, name_gates, AreLeaves, IsNamed, AreNamed}
 use Rattle.point_cone.specs.Small.{IsSmall}
 use Rattle.point_cone.specs.declared.build.Small.{Small}
-use Rattle.point_cone.specs.declared.build.Cone.{Cone}
-use Rattle.point_cone.proofs.Naming.{node_is, parts, values, HasValue, name_has, IsGateAt, UpTo, gates_named, gates_length}
+use Rattle.point_cone.proofs.Naming.{node_is, parts, HasValue, name_has, IsGateAt, UpTo, gates_named, gates_length}
 
 -- ---- what nodes read
 

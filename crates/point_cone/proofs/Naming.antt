@@ -1,17 +1,16 @@
 -- The names of nodes have their values.
-use Rattle.std.proofs.Common.{◌≡◌, ◌≢◌, ℕ, ◌+◌, ◌-◌, ◌*◌, ◌/◌, ◌%◌, ◌<◌, ◌≤◌, ◌⊎◌, inl, inr, nat_lt, nat_eq, zero, suc, Bool, true, false, not, ◌&&◌, cond, Some, List, [], ◌∷◌, ◌++◌, length, get_or, drop, refl, sym, ap, ◌∙◌, subst, arith, add-one, length-append, map}
-use Rattle.std.specs.Prelude.{All, AllPairs, slice_get}
+use Rattle.std.proofs.Common.{◌≡◌, ◌≢◌, ℕ, ◌+◌, ◌*◌, ◌/◌, ◌%◌, ◌<◌, ◌≤◌, ◌⊎◌, inl, inr, nat_eq, zero, suc, Bool, true, false, not, ◌&&◌, cond, List, [], ◌∷◌, ◌++◌, length, get_or, drop, refl, sym, ap, ◌∙◌, subst, arith, length-append}
 use Rattle.std.proofs.Math.ListN.{set}
 use Rattle.std.proofs.Math.Seq.{drop-cons}
-use Rattle.std.proofs.lemmas.Bool.{cases_eq, cases_lt, true≢false}
-use Rattle.std.proofs.lemmas.List.{get_or_append_left, get_or_at, get_or-append-add, get_or-map, get_or-set_same, get_or-set_other, length-map, length-set, length_push}
+use Rattle.std.proofs.lemmas.Bool.{cases_eq, true≢false}
+use Rattle.std.proofs.lemmas.List.{get_or_append_left, get_or_at, get_or-set_same, get_or-set_other, length-map, length-set, length_push}
 use Rattle.std.proofs.lemmas.List.Elements.{All-nil, All-push, All-weaker}
 use Rattle.std.proofs.lemmas.List.Quantifiers.{all_pairs_push}
 use Rattle.aig_core.specs.declared.gate.Gate.{Gate}
-use Rattle.aig_core.specs.Graph.{Graph, leaf_count, first_gate, node_count, IsLiteral, negation, IsWellFormed, ReadEarlierNodes, not_if, value_in, gate_value, values_with, node_values, value_of, Gives, and_of, both}
+use Rattle.aig_core.specs.Graph.{Graph, leaf_count, IsLiteral, negation, IsWellFormed, ReadEarlierNodes, not_if, value_in, gate_value, values_with, node_values, value_of, Gives, and_of, both}
 use Rattle.bit_system.proofs.Earlier.{reads_at}
 use Rattle.aig_core.proofs.AndLaw.{and_gives}
-use Rattle.aig_core.proofs.Values.{get_or-values_with, value_in-values_with, value_in-node, value_of-negation, value_of-Extends, IsLiteral-Extends, IsLiteral-negation}
+use Rattle.aig_core.proofs.Values.{get_or-values_with, value_in-values_with, value_of-negation, value_of-Extends, IsLiteral-Extends, IsLiteral-negation}
 use Rattle.point_cone.specs.Reaching.{on}
 use Rattle.point_cone.specs.Parts.{part}
 use Rattle.point_cone.specs.Naming.{name_of, Renamed, name_gate, name_at, name_gates, AreLeaves, IsNamed, AreNamed}

@@ -1,5 +1,5 @@
 -- What a point needs is marked.
-use Rattle.std.proofs.Common.{◌≡◌, ℕ, ◌+◌, ◌-◌, ◌*◌, ◌/◌, ◌<◌, ◌≤◌, ◌⊎◌, inl, inr, nat_lt, zero, suc, Bool, true, false, cond, Some, List, [], ◌∷◌, ◌++◌, length, get_or, take, replicate, refl, sym, ap, ◌∙◌, subst, arith}
+use Rattle.std.proofs.Common.{◌≡◌, ℕ, ◌+◌, ◌-◌, ◌/◌, ◌<◌, ◌≤◌, ◌⊎◌, inl, inr, nat_lt, zero, suc, Bool, true, false, cond, Some, List, [], ◌∷◌, ◌++◌, length, get_or, take, replicate, refl, sym, ap, ◌∙◌, subst, arith}
 use Rattle.std.specs.Prelude.{All, Contains}
 use Rattle.std.specs.List.{sum_by}
 use Rattle.std.proofs.Math.ListN.{set}
@@ -12,7 +12,7 @@ use Rattle.aig_core.specs.Graph.{IsLiteral, first_gate, node_count}
 use Rattle.bit_system.specs.Machine.{Machine, IsMachine, next_literal, hit_literal}
 use Rattle.bit_system.specs.Queries.{first_state}
 use Rattle.bit_system.proofs.Earlier.{reads_at}
-use Rattle.point_cone.specs.Reaching.{on, gate_of, reads, IsNeeded, hit, left, right, IsDone, AreDone, unmarked, IsUnder, IsReached, Reaches}
+use Rattle.point_cone.specs.Reaching.{on, gate_of, reads, IsNeeded, hit, left, right, IsDone, IsUnder, IsReached, Reaches}
 
 -- ---- what a node reads
 

@@ -1,8 +1,8 @@
 -- Starts, inputs, lemmas and walks of the whole system, from those of the cone.
-use Rattle.std.proofs.Common.{◌≡◌, ℕ, ◌+◌, ◌<◌, ◌≤◌, ◌⊎◌, inl, inr, zero, suc, Bool, true, false, not, cond, ◌||◌, Option, Some, None, List, [], ◌∷◌, length, get_or, take, refl, sym, ap, ◌∙◌, subst, arith, map}
+use Rattle.std.proofs.Common.{◌≡◌, ℕ, ◌<◌, ◌⊎◌, inl, inr, suc, Bool, true, false, not, cond, ◌||◌, Option, Some, None, List, [], ◌∷◌, length, get_or, take, refl, sym, ap, ◌∙◌, arith, map}
 use Rattle.std.specs.Prelude.{All}
 use Rattle.std.specs.List.{list_any}
-use Rattle.std.proofs.lemmas.List.{get_or-map, length-map, take-map}
+use Rattle.std.proofs.lemmas.List.{get_or-map, get_or_default, length-map, take-map}
 use Rattle.std.proofs.lemmas.List.Elements.{All-head, All-tail, All-map, All-take, All-weaker}
 use Rattle.bit_system.specs.declared.system.StateInfo.{StateInfo}
 use Rattle.bit_system.specs.declared.ladder.StateLit.{StateLit}
@@ -11,7 +11,7 @@ use Rattle.bit_system.specs.Machine.{Machine, IsMachine, IsState, IsInput, IsSta
 use Rattle.bit_system.specs.Ladders.{HasStates, lit_true}
 use Rattle.bit_system.specs.Accepted.{Rises, starts_as}
 use Rattle.point_cone.specs.Laws.{IsSeen, IsSame}
-use Rattle.point_cone.specs.Back.{whole_lit, whole_lemma, value_of_start, starting, IsPut}
+use Rattle.point_cone.specs.Back.{whole_lit, whole_lemma, value_of_start, starting, IsPut, IsOne, AgreeElsewhere}
 use Rattle.point_cone.specs.Parts.{part, IsCone}
 use Rattle.point_cone.specs.declared.build.Cone.{Cone}
 
@@ -30,6 +30,13 @@ part_put places some old new len p =
     same_values (part places new) some (length-map places (λ k. get_or new k false) ∙ sym len)
     (λ i low. (let below : i < length places = omega (arith, length-map places (λ (k : ℕ). get_or new k false)) in
     get_or-map (λ k. get_or new k false) places i 0 false below ∙ p.put i below))
+
+pub elsewhere : (places : List ℕ) (some old new : List Bool) → IsPut places some (length places) old new → AgreeElsewhere places old new
+elsewhere places some old new p n none = by (p.each n)
+  where
+    by : IsOne places (length places) n ⊎ (get_or new n false ≡ get_or old n false) → get_or new n false ≡ get_or old n false
+    by (inl one) = absurd (none (one.at, one.below, get_or_default places one.at n 0 one.below ∙ one.is))
+    by (inr same) = same
 
 pub start_put : (whole : Machine) (cone : Cone) (some new : List Bool) → IsCone whole cone → IsStart cone.system some →
     IsPut cone.states some (length cone.states) (starting whole.states) new → IsStart whole new

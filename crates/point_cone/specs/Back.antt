@@ -1,5 +1,5 @@
 -- From the cone back to the whole system.
-use Rattle.std.specs.Prelude.{◌≡◌, ℕ, ◌<◌, ◌⊎◌, Bool, false, Option, Some, None, List, map, length, slice_index_or}
+use Rattle.std.specs.Prelude.{◌≡◌, ℕ, ◌<◌, ◌⊎◌, Bool, false, Option, Some, None, List, map, length, slice_index_or, Contains}
 use Rattle.bit_system.specs.declared.system.StateInfo.{StateInfo}
 use Rattle.bit_system.specs.declared.ladder.StateLit.{StateLit}
 use Rattle.bit_system.specs.declared.ladder.Lemma.{Lemma}
@@ -31,3 +31,7 @@ pub record IsPut (places : List ℕ) (some : List Bool) (count : ℕ) (old new :
   pub size : length new ≡ length old
   pub put : (k : ℕ) → k < count → slice_index_or new (slice_index_or places k 0) false ≡ slice_index_or some k false
   pub each : (n : ℕ) → IsOne places count n ⊎ (slice_index_or new n false ≡ slice_index_or old n false)
+
+-- away from these places the values are the same
+abbrev pub AgreeElsewhere : List ℕ → List Bool → List Bool → Type 0
+AgreeElsewhere places old new = (n : ℕ) → (Contains places n → ⊥) → slice_index_or new n false ≡ slice_index_or old n false

@@ -1,6 +1,6 @@
 -- The circuit of marked nodes.
-use Rattle.std.specs.Prelude.{◌≡◌, ℕ, ◌+◌, ◌<◌, Bool, true, List, length, All as Each}
-use Rattle.aig_core.specs.Graph.{IsWellFormed, node_count}
+use Rattle.std.specs.Prelude.{◌≡◌, ℕ, ◌+◌, Bool, true, List, length, All as Each}
+use Rattle.aig_core.specs.Graph.{node_count}
 use Rattle.bit_system.specs.Machine.{Machine}
 use Rattle.bit_system.specs.Queries.{first_state}
 use Rattle.point_cone.specs.Naming.{AreNamed}

@@ -1,7 +1,7 @@
 //! From a cone back to the whole system.
-ghost use Rattle.std.specs.Prelude.{◌≡◌, ◌<◌, All, IfOk, length, map};
+ghost use Rattle.std.specs.Prelude.{◌≡◌, ◌<◌, false, All, IfOk, length, map, replicate};
 ghost use Rattle.bit_system.specs.Machine.{IsStart, IsInput};
-ghost use Rattle.point_cone.specs.Back.{whole_lit, whole_lemma, value_of_start, starting, IsPut};
+ghost use Rattle.point_cone.specs.Back.{whole_lit, whole_lemma, value_of_start, starting, IsPut, AgreeElsewhere};
 ghost use Rattle.point_cone.specs.Laws.{WalksAreSeen, LemmasAreSame};
 ghost use Rattle.point_cone.specs.Parts.{ArePlaces, IsCone, part};
 
@@ -72,6 +72,7 @@ impl Cone {
         requires start { IsStart self.now.system start.now }
         ensures start { IfOk result (IsStart system.now) }
         ensures part { IfOk result (λ s. part self.now.states s ≡ start.now) }
+        ensures elsewhere { IfOk result (AgreeElsewhere self.now.states (starting system.now.states)) }
     {
         let mut values = starting(alloc, system.states())?;
         put(&mut values, self.states.as_slice(), start);
@@ -89,6 +90,7 @@ impl Cone {
         requires input { IsInput self.now.system input.now }
         ensures input { IfOk result (IsInput system.now) }
         ensures part { IfOk result (λ i. part self.now.inputs i ≡ input.now) }
+        ensures elsewhere { IfOk result (AgreeElsewhere self.now.inputs (replicate system.now.graph.inputs false)) }
     {
         let mut values = Items::from_vec(vec![in alloc; false; system.inputs() as usize]?);
         put(&mut values, self.inputs.as_slice(), input);

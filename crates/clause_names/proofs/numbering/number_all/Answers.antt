@@ -1,4 +1,3 @@
-use Rattle.std.proofs.Common.{◌∙◌, sym}
 use Rattle.clause_names.proofs.Grown.{clause_step}
 use Rattle.clause_names.proofs.numbering.number_all.Goals as goal
 

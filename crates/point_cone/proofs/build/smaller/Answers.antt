@@ -1,4 +1,3 @@
-use Rattle.std.proofs.Common.{arith}
 use Rattle.point_cone.proofs.Made.{all_literals, small_is}
 use Rattle.point_cone.proofs.build.smaller.Goals as goal
 

@@ -1,4 +1,4 @@
-use Rattle.std.proofs.Common.{◌-◌, ℕ, ◌+◌, ◌*◌, ◌<◌, ◌≤◌, ◌≡◌, List, length, get_or, arith}
+use Rattle.std.proofs.Common.{◌-◌, ℕ, ◌<◌, ◌≤◌, ◌≡◌, List, get_or, arith}
 use Rattle.aig_core.specs.declared.gate.Gate.{Gate}
 use Rattle.aig_core.specs.Graph.{first_gate, node_count, IsLiteral}
 use Rattle.bit_system.specs.Machine.{Machine, IsMachine}

@@ -1,5 +1,4 @@
 use Rattle.std.proofs.Common.{length, arith}
-use Rattle.aig_core.specs.declared.gate.Gate.{Gate}
 use Rattle.point_cone.proofs.Naming.{gates_more, sides_within}
 use Rattle.point_cone.proofs.rename.name_gates.Goals as goal
 

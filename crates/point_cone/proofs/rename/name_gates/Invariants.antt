@@ -1,6 +1,6 @@
-use Rattle.std.proofs.Common.{◌≡◌, ◌+◌, drop, length}
+use Rattle.std.proofs.Common.{◌≡◌, ◌+◌, drop}
 use Rattle.std.specs.Prelude.{All}
-use Rattle.aig_core.specs.Graph.{IsLiteral, ReadEarlierNodes}
+use Rattle.aig_core.specs.Graph.{IsLiteral}
 use Rattle.point_cone.specs.Naming.{name_gates}
 use Rattle.point_cone.proofs.rename.name_gates.Given as goal
 

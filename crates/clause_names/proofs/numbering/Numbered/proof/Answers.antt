@@ -1,4 +1,3 @@
-use Rattle.std.proofs.Common.{◌∙◌, sym}
 use Rattle.cnf_core.specs.Lrat.{start}
 use Rattle.clause_names.proofs.Whole.{lines_below, refuted}
 use Rattle.clause_names.proofs.numbering.Numbered.proof.Goals as goal
