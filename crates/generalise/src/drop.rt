@@ -96,7 +96,8 @@ fn drop_pass<A: Ask>(
 }
 
 /// A part of the cube that is still blocked and still misses the start. Where effort is left, no one literal
-/// more can be taken out so that this holds. A pass asks a query for each literal, and passes go on until one
+/// more can be taken out so that this holds. At a low level nearly every part of a cube is blocked, so the level
+/// is best the highest one at which the whole cube is. A pass asks a query for each literal, and passes go on until one
 /// drops nothing.
 pub fn drop_literals<A: Ask>(
     alloc: Global,

@@ -12,5 +12,5 @@ pub use ask::Ask;
 pub use bit_system::Memory;
 pub use cube::{Cube, lemma_of, misses_start};
 pub use drop::drop_literals;
-pub use lift::shrink_state;
+pub use lift::{shrink_state, values_in_step};
 pub use units::Units;

@@ -12,7 +12,7 @@ use sqlite_items::Items;
 use std::alloc::Global;
 
 /// The value of each node in the state, under the input.
-fn values_in_step(
+pub fn values_in_step(
     alloc: Global,
     system: &System,
     state: &[bool],

@@ -18,6 +18,7 @@ use Rattle.generalise.specs.Cubes.{opposite, in_cube, IsCube, HasBits, lemma_of,
 use Rattle.generalise.specs.Frames.{InFrame, IsBlocked, IsLearnable}
 use Rattle.generalise.proofs.Smaller.{All-remove}
 use Rattle.ic3_frames.specs.Framed.{Framed}
+use Rattle.ic3_frames.specs.Ascents.{LieIn}
 use Rattle.ic3_frames.specs.Known.{Subsumes, IsNeedless}
 use Rattle.ic3_frames.specs.Queries.{StepsInto}
 use Rattle.ic3_frames.specs.Rules.{IsFrameLemma, Lands, MissesHit, IsKept, Rules, AreEqual}
@@ -115,7 +116,7 @@ kept_more m f level cube low h new =
 abbrev pub MakeSame : List Lemma → List Lemma → Type 0
 MakeSame a b = (level : Depth) (s : List Bool) → Each (λ l. is_at_least l.level level ≡ true → lemma_true s l ≡ true) a → Each (λ l. is_at_least l.level level ≡ true → lemma_true s l ≡ true) b
 
-frame_same : (m : Machine) (a b : List Lemma) (level : Depth) (s : List Bool) → MakeSame a b → InFrame m a level s → InFrame m b level s
+pub frame_same : (m : Machine) (a b : List Lemma) (level : Depth) (s : List Bool) → MakeSame a b → InFrame m a level s → InFrame m b level s
 frame_same m a b level s same f = record { is_state = f.is_state; starts = f.starts; holds = same level s f.holds }
 
 pub kept_same : (m : Machine) (f : Framed) (lemmas : List Lemma) → MakeSame f.lemmas lemmas → MakeSame lemmas f.lemmas → Each (IsFrameLemma m) lemmas → IsKept m f →
@@ -148,14 +149,18 @@ lower_less lemmas at P below h a = λ k d low.
       ]
     ]
 
+less-same : (lemmas : List Lemma) (at : ℕ) → at + 1 < length lemmas → IsNeedless lemmas at → MakeSame (remove lemmas at) lemmas
+less-same lemmas at below needless level s a =
+    lower_less lemmas at (λ l. is_at_least l.level level ≡ true → lemma_true s l ≡ true) below
+    (λ l holds d e up.
+    let sub : Subsumes l (get_or lemmas at d) = rw e (needless d) in
+    sub.implies s (holds (at_least_trans l.level (get_or lemmas at d).level level sub.level up))) a
+
 pub kept_less : (m : Machine) (f : Framed) (at : ℕ) → at + 1 < length f.lemmas → IsNeedless f.lemmas at → IsKept m f → IsKept m (record f { lemmas = remove f.lemmas at })
 kept_less m f at below needless h =
     kept_same m f (remove f.lemmas at)
     (λ level s a. All-remove (λ l. is_at_least l.level level ≡ true → lemma_true s l ≡ true) f.lemmas at a)
-    (λ level s a. lower_less f.lemmas at (λ l. is_at_least l.level level ≡ true → lemma_true s l ≡ true) below
-    (λ l holds d e up.
-    let sub : Subsumes l (get_or f.lemmas at d) = rw e (needless d) in
-    sub.implies s (holds (at_least_trans l.level (get_or f.lemmas at d).level level sub.level up))) a)
+    (less-same f.lemmas at below needless)
     (All-remove (IsFrameLemma m) f.lemmas at h.lemmas) h
 
 -- ---- a lemma at a higher level
@@ -185,15 +190,15 @@ frame-lemma-as m l x level e g h = record {
   starts = ap (λ (ls : List StateLit). list_any (λ l. starts_as (get_or m.states l.state (record { name = []; start = None })).start l.positive) ls) g ∙ h.starts;
 }
 
-raised-same : (lemmas : List Lemma) (at level : ℕ) (l x : Lemma) → at < length lemmas → l ≡ get_or lemmas at l → l.level ≡ Steps level → x.level ≡ Steps (level + 1) → x.lits ≡ l.lits →
+pub raised_same : (lemmas : List Lemma) (at level : ℕ) (l x : Lemma) → at < length lemmas → l ≡ get_or lemmas at l → l.level ≡ Steps level → x.level ≡ Steps (level + 1) → x.lits ≡ l.lits →
     MakeSame (set lemmas at x) (lemmas ++ x ∷ [])
-raised-same lemmas at level l x below is e f g to s h =
+raised_same lemmas at level l x below is e f g to s h =
     let P : Lemma → Type 0 = λ k. is_at_least k.level to ≡ true → lemma_true s k ≡ true in
     let here : P x = subst P (get_or-set_same lemmas at x l below) (h at l (omega (arith, length-set lemmas at x))) in
     All-push P lemmas x (set-back P lemmas at x l below is (raised-back level l x e f g to s) h) here
 
-raised-more : (lemmas : List Lemma) (at : ℕ) (x : Lemma) → MakeSame (lemmas ++ x ∷ []) (set lemmas at x)
-raised-more lemmas at x to s h =
+pub raised_more : (lemmas : List Lemma) (at : ℕ) (x : Lemma) → MakeSame (lemmas ++ x ∷ []) (set lemmas at x)
+raised_more lemmas at x to s h =
     let P : Lemma → Type 0 = λ k. is_at_least k.level to ≡ true → lemma_true s k ≡ true in
     All-set P lemmas at x (All-last P lemmas x h) (All-left P lemmas (x ∷ []) h)
 
@@ -201,12 +206,12 @@ raised-kept : (m : Machine) (f : Framed) (at level : ℕ) (l x : Lemma) → at <
     x.level ≡ Steps (level + 1) → x.lits ≡ l.lits → IsKept m f → Lands m (f.lemmas ++ x ∷ []) → IsKept m (record f { lemmas = set f.lemmas at x })
 raised-kept m f at level l x below is e up g h lands =
     let own : IsFrameLemma m l = subst (IsFrameLemma m) (sym is) (h.lemmas at l below) in
-    let same : MakeSame (set f.lemmas at x) (f.lemmas ++ x ∷ []) = raised-same f.lemmas at level l x below is e up g in
+    let same : MakeSame (set f.lemmas at x) (f.lemmas ++ x ∷ []) = raised_same f.lemmas at level l x below is e up g in
     record {
       valid = h.valid;
       point = h.point;
       lemmas = All-set (IsFrameLemma m) f.lemmas at x (frame-lemma-as m l x level up g own) h.lemmas;
-      lands = λ i s y t input. frame_same m (f.lemmas ++ x ∷ []) (set f.lemmas at x) (Steps (i + 1)) _ (raised-more f.lemmas at x)
+      lands = λ i s y t input. frame_same m (f.lemmas ++ x ∷ []) (set f.lemmas at x) (Steps (i + 1)) _ (raised_more f.lemmas at x)
           (lands i s y (frame_same m (set f.lemmas at x) (f.lemmas ++ x ∷ []) (Steps i) s same t) input);
       misses = λ i low s y t. h.misses i low s y (record {
         in_frame = frame_first m f.lemmas x _ s (frame_same m (set f.lemmas at x) (f.lemmas ++ x ∷ []) _ s same t.in_frame);
@@ -270,18 +275,25 @@ kept_forgotten m f point lemmas new depth at e same below needless h =
     let N : Framed → Type 0 = λ g. IsNeedless g.lemmas at in
     rw same (kept_less m (record { point = point; lemmas = lemmas; depth = depth }) at (subst B (sym e) below) (subst N (sym e) needless) (subst (IsKept m) (sym e) h))
 
+pub forgotten_lies_in : (f : Framed) (point : ℕ) (lemmas new : List Lemma) (depth at : ℕ) → record { point = point; lemmas = lemmas; depth = depth } ≡ f →
+    new ≡ remove lemmas at → at + 1 < length f.lemmas → IsNeedless f.lemmas at → LieIn new f.lemmas
+forgotten_lies_in f point lemmas new depth at e same below needless m level s t =
+    let lists : lemmas ≡ f.lemmas = ap (λ (g : Framed). g.lemmas) e in
+    let less : new ≡ remove f.lemmas at = same ∙ ap (λ (ls : List Lemma). remove ls at) lists in
+    frame_same m (remove f.lemmas at) f.lemmas level s (less-same f.lemmas at below needless) (subst (λ (ls : List Lemma). InFrame m ls level s) less t)
+
 pub kept_learnt : (m : Machine) (f new : Framed) (point : ℕ) (lemmas now : List Lemma) (depth level : ℕ) (cube : List StateLit) → record { point = point; lemmas = lemmas; depth = depth } ≡ f → IsKept m f →
     0 < level → now ≡ lemmas → IsLearnable m lemmas (Steps level) cube → new ≡ record { point = point; lemmas = now ++ lemma_of (Steps level) cube ∷ []; depth = depth } → IsKept m new
 kept_learnt m f new point lemmas now depth level cube e h low same learnable is =
     rw (is, same) (kept_more m (record { point = point; lemmas = lemmas; depth = depth }) level cube low (subst (IsKept m) (sym e) h) learnable)
 
-at-place : (f : Framed) (point : ℕ) (lemmas : List Lemma) (depth at : ℕ) (l : Lemma) → record { point = point; lemmas = lemmas; depth = depth } ≡ f → l ≡ get_or lemmas at l → l ≡ get_or f.lemmas at l
-at-place f point lemmas depth at l e is = is ∙ ap (λ (g : Framed). get_or g.lemmas at l) e
+pub at_place : (f : Framed) (point : ℕ) (lemmas : List Lemma) (depth at : ℕ) (l : Lemma) → record { point = point; lemmas = lemmas; depth = depth } ≡ f → l ≡ get_or lemmas at l → l ≡ get_or f.lemmas at l
+at_place f point lemmas depth at l e is = is ∙ ap (λ (g : Framed). get_or g.lemmas at l) e
 
 pub cube_bits : (m : Machine) (f : Framed) (point : ℕ) (lemmas : List Lemma) (depth at : ℕ) (l : Lemma) (cube : List StateLit) → record { point = point; lemmas = lemmas; depth = depth } ≡ f → IsKept m f →
     at < length f.lemmas → l ≡ get_or lemmas at l → cube ≡ map opposite l.lits → HasBits m cube
 cube_bits m f point lemmas depth at l cube e h below is same =
-    let own : IsFrameLemma m l = subst (IsFrameLemma m) (sym (at-place f point lemmas depth at l e is)) (h.lemmas at l below) in
+    let own : IsFrameLemma m l = subst (IsFrameLemma m) (sym (at_place f point lemmas depth at l e is)) (h.lemmas at l below) in
     rw same (bits_opposite m l.lits own.states)
 
 pub kept_set : (m : Machine) (f : Framed) (point point2 : ℕ) (lemmas lemmas2 new : List Lemma) (depth depth2 at level next : ℕ) (l x : Lemma) (cube : List StateLit) →
@@ -290,7 +302,7 @@ pub kept_set : (m : Machine) (f : Framed) (point point2 : ℕ) (lemmas lemmas2 n
     ((s t : List Bool) → StepsInto m f.lemmas (Steps next) cube s t → ⊥) → x ≡ lemma_of (Steps next) cube → new ≡ set lemmas2 at x →
     IsKept m (record { point = point2; lemmas = new; depth = depth2 })
 kept_set m f point point2 lemmas lemmas2 new depth depth2 at level next l x cube e e2 h below here is up same none made put =
-    let place : l ≡ get_or f.lemmas at l = at-place f point lemmas depth at l e is in
+    let place : l ≡ get_or f.lemmas at l = at_place f point lemmas depth at l e is in
     let own : l.level ≡ Steps level = ap (λ (k : Lemma). k.level) place ∙ here l in
     let blocked : IsBlocked m f.lemmas (Steps next) cube = none_blocks m f.lemmas (Steps next) cube none in
     let raised : IsKept m (record f { lemmas = set f.lemmas at (lemma_of (Steps (level + 1)) (map opposite l.lits)) }) =

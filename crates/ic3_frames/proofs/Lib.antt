@@ -1,8 +1,11 @@
 pub mod Bits
+pub mod Blocked
+pub mod Distinct
 pub mod Laws
 pub mod Levels
 pub mod Lists
 pub mod Meaning
+pub mod Replays
 pub mod Starts
 pub mod Swept
 pub mod Traces

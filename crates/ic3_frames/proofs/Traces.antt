@@ -1,8 +1,8 @@
 -- From obligations to a walk, and its first hit.
-use Rattle.std.proofs.Common.{◌≡◌, ℕ, ◌+◌, ◌-◌, ◌<◌, suc, Bool, true, false, not, cond, ◌&&◌, ◌||◌, Option, Some, None, List, [], ◌∷◌, map, take, length, get_or, refl, sym, ap, ◌∙◌, subst, arith, inl, inr}
+use Rattle.std.proofs.Common.{◌≡◌, ℕ, ◌+◌, ◌-◌, ◌<◌, ◌≤◌, zero, suc, Bool, true, false, not, cond, ◌&&◌, ◌||◌, Option, Some, None, List, [], ◌∷◌, map, take, length, get_or, refl, sym, ap, ◌∙◌, subst, arith, inl, inr}
 use Rattle.std.specs.Prelude.{All as Each}
 use Rattle.std.proofs.lemmas.Bool.{cases_eq, true≢false}
-use Rattle.std.proofs.lemmas.List.{length-take-le}
+use Rattle.std.proofs.lemmas.List.{length-take-le, take-take, get_or-take}
 use Rattle.std.proofs.lemmas.List.Elements.{All-nil, All-cons, All-head, All-tail, All-take}
 use Rattle.bit_system.specs.declared.ladder.Depth.TheVariants.{Steps}
 use Rattle.bit_system.specs.declared.ladder.StateLit.{StateLit}
@@ -12,19 +12,15 @@ use Rattle.bit_system.specs.Machine.{Machine, IsMachine, IsState, IsInput, IsSta
 use Rattle.bit_system.specs.Ladders.{lit_true, lemma_true}
 use Rattle.bit_system.specs.Accepted.{starts_as}
 use Rattle.generalise.specs.Cubes.{in_cube, HasBits, lemma_of, misses_start}
-use Rattle.generalise.specs.Frames.{InFrame}
-use Rattle.ic3_frames.specs.Framed.{Framed}
 use Rattle.ic3_frames.specs.Full.{IsLike, or_else}
 use Rattle.ic3_frames.specs.Lifted.{IsLifted}
-use Rattle.ic3_frames.specs.Obligations.{IsObligation, Chain, Fits, LeadsInto, IsPutBefore}
+use Rattle.ic3_frames.specs.Obligations.{IsObligation, Chain, LeadsInto}
 use Rattle.ic3_frames.specs.Queries.{Hits, StepsInto, all_true_after}
-use Rattle.ic3_frames.specs.Rules.{Lands, IsKept}
-use Rattle.ic3_frames.specs.Searching.{IsTrace}
+use Rattle.ic3_frames.specs.Searching.{IsFirstHit, IsTrace}
 use Rattle.ic3_frames.specs.Walks.{LeadsToHit, EndsAtFirstHit}
 use Rattle.ic3_frames.specs.declared.obligation.Obligation.{Obligation}
 use Rattle.ic3_frames.specs.declared.walk.Walk.{Walk}
 use Rattle.ic3_frames.proofs.Bits.{is_state_after, all_after}
-use Rattle.ic3_frames.proofs.Laws.{start_in_frame}
 use Rattle.ic3_frames.proofs.Meaning.{outside_holds}
 use Rattle.ic3_frames.proofs.Starts.{start_holds}
 use Rattle.ic3_frames.proofs.Bits.{bits_opposite}
@@ -85,102 +81,68 @@ chain-leads : (m : Machine) (point : ℕ) (v : IsMachine m) (s : List Bool) (o :
 chain-leads m point v s o [] c st h = (c.0.is_input, c.1 s st h)
 chain-leads m point v s o (p ∷ ps) c st h = (c.0.is_input, chain-leads m point v (next_state m s o.input) p ps c.2 (is_state_after m v s o.input) (c.1 s st h))
 
-length-inputs : (os : List Obligation) → length (map (λ o. o.input) os) ≡ length os
-length-inputs [] = refl
-length-inputs (o ∷ os) = ap suc (length-inputs os)
-
 pub trace_is : (m : Machine) (point : ℕ) (v : IsMachine m) (start : List Bool) (lines : List (List Bool)) (o : Obligation) (os : List Obligation) →
     Chain m point (o ∷ os) → misses_start m o.cube ≡ false → IsLike m o.state start → lines ≡ map (λ o. o.input) (o ∷ os) →
-    IsTrace m point (length os + 1) (record { start = start; lines = lines })
+    IsTrace m point (record { start = start; lines = lines })
 trace_is m point v start lines o os c e like same = record {
   starts = like_starts m o.state start like;
   leads = rw same (chain-leads m point v start o os c like.is_state (like-inside m o.state start o.cube like c.0.is_cube.in_range e c.0.inside));
-  long = rw same (omega (arith, length-inputs (o ∷ os)));
 }
 
-obligation-is : (m : Machine) (state input : List Bool) (goal : List ℕ) (o : Obligation) → IsLifted m state input goal o → IsState m state → IsInput m input → IsObligation m o
-obligation-is m state input goal o h st inp = record {
+obligation-is : (m : Machine) (state input : List Bool) (goal : List ℕ) (level : ℕ) (o : Obligation) → IsLifted m state input goal level o → IsState m state → IsInput m input →
+    (level ≡ 0 → IsStart m state) → IsObligation m o
+obligation-is m state input goal level o h st inp starts = record {
   is_state = rw h.state st;
   is_input = rw h.input inp;
   is_cube = h.is_cube;
   inside = rw h.state h.inside;
+  starts = λ none. rw h.state (starts (sym h.level ∙ none));
 }
 
-pub chain_one : (m : Machine) (point : ℕ) (state input : List Bool) (o : Obligation) → IsLifted m state input (hit_literal m point ∷ []) o → IsState m state → IsInput m input →
-    Chain m point (o ∷ [])
-chain_one m point state input o h st inp = (
-  obligation-is m state input (hit_literal m point ∷ []) o h st inp,
+pub chain_one : (m : Machine) (point depth : ℕ) (lemmas : List Lemma) (state input : List Bool) (o : Obligation) → Hits m point lemmas (Steps (depth + 1)) state input →
+    IsLifted m state input (hit_literal m point ∷ []) depth o → Chain m point (o ∷ [])
+chain_one m point depth lemmas state input o t h = (
+  obligation-is m state input (hit_literal m point ∷ []) depth o h t.in_frame.is_state t.is_input
+      (λ e. t.in_frame.starts (let none : depth + 1 - 1 ≡ 0 = omega arith in ap (λ (k : ℕ). Steps k) none)),
   λ s is inside. rw h.input (All-head (λ x. value_in_step m s input x ≡ true) (hit_literal m point) [] (h.forces s is inside)),
   tt,
 )
 
-pub chain_next : (m : Machine) (point : ℕ) (v : IsMachine m) (state input : List Bool) (o first : Obligation) (rest : List Obligation) →
-    Chain m point (first ∷ rest) → IsLifted m state input (all_true_after m first.cube) o → IsState m state → IsInput m input → Chain m point (o ∷ first ∷ rest)
-chain_next m point v state input o first rest c h st inp = (
-  obligation-is m state input (all_true_after m first.cube) o h st inp,
+pub chain_next : (m : Machine) (point : ℕ) (v : IsMachine m) (state input : List Bool) (o first : Obligation) (rest new : List Obligation) →
+    Chain m point (first ∷ rest) → IsLifted m state input (all_true_after m first.cube) (first.level - 1) o → LeadsInto m first.cube state input →
+    0 < first.level → (first.level ≡ 1 → IsStart m state) → new ≡ o ∷ first ∷ rest → Chain m point new
+chain_next m point v state input o first rest new c h into low starts same = rw same (
+  obligation-is m state input (all_true_after m first.cube) (first.level - 1) o h into.is_state into.is_input (λ e. starts (omega arith)),
   λ s is inside. rw h.input (all_after m v s input first.cube c.0.is_cube.in_range (h.forces s is inside)),
   c,
 )
 
-pub put_before_is : (m : Machine) (point : ℕ) (v : IsMachine m) (state input : List Bool) (o first : Obligation) (rest new : List Obligation) →
-    Chain m point (first ∷ rest) → IsLifted m state input (all_true_after m first.cube) o → LeadsInto m first.cube state input →
-    new ≡ o ∷ first ∷ rest → IsPutBefore m point state (first ∷ rest) new
-put_before_is m point v state input o first rest new c h into same = record {
-  chain = rw same (chain_next m point v state input o first rest c h into.is_state into.is_input);
-  first = o;
-  put = same;
-  same = h.state;
-}
+-- a step from the frame before level 1 begins at a start
+pub starts_before : (m : Machine) (lemmas : List Lemma) (level : ℕ) (cube : List StateLit) (state input : List Bool) → StepsInto m lemmas (Steps level) cube state input → level ≡ 1 → IsStart m state
+starts_before m lemmas level cube state input t one =
+    let none : level - 1 ≡ 0 = omega arith in
+    t.in_frame.starts (ap (λ (k : ℕ). Steps k) none)
 
-pub fits_rest : (m : Machine) (most : ℕ) (rest : List Obligation) → length rest < most → Fits m most rest
-fits_rest m most [] below = tt
-fits_rest m most (o ∷ os) below = (omega arith, λ full. absurd (omega arith))
-
-pub fits_put : (m : Machine) (point most level : ℕ) (lemmas : List Lemma) (cube : List StateLit) (state input : List Bool) (old new : List Obligation) →
-    level + length old ≡ most → 0 < level → StepsInto m lemmas (Steps level) cube state input → IsPutBefore m point state old new → Fits m most new
-fits_put m point most level lemmas cube state input old new e low t p =
-    rw p.put (
-      omega arith,
-      λ full.
-          let zero_before : level - 1 ≡ 0 = omega arith in
-          rw p.same (t.in_frame.starts (ap (λ (k : ℕ). Steps k) zero_before)),
-    )
-
-pub fits_one : (m : Machine) (point depth : ℕ) (lemmas : List Lemma) (o : Obligation) (state input : List Bool) (goal : List ℕ) →
-    Hits m point lemmas (Steps (depth + 1)) state input → IsLifted m state input goal o → Fits m (depth + 1) (o ∷ [])
-fits_one m point depth lemmas o state input goal h is =
-    (omega arith, λ full. rw is.state (h.in_frame.starts (let none : depth + 1 - 1 ≡ 0 = omega arith in ap (λ (k : ℕ). Steps k) none)))
-
-pub below_most : (m : Machine) (point most : ℕ) (o : Obligation) (os : List Obligation) → Chain m point (o ∷ os) → Fits m most (o ∷ os) → misses_start m o.cube ≡ true → length os + 1 < most
-below_most m point most o os chain fits misses =
-    elim (cases_eq (length (o ∷ os)) most) [
-      | inl full ↦
+-- an obligation that no start lies in has a level above 0
+pub level_above : (m : Machine) (o : Obligation) → IsObligation m o → misses_start m o.cube ≡ true → 0 < o.level
+level_above m o h misses =
+    elim (cases_eq o.level 0) [
+      | inl none ↦
           let holds : lemma_true o.state (lemma_of (Steps 0) o.cube) ≡ true =
-          start_holds m o.state (lemma_of (Steps 0) o.cube) (fits.1 full) (bits_opposite m o.cube chain.0.is_cube.in_range) misses in
-          absurd (true≢false (sym chain.0.inside ∙ outside_holds o.state (Steps 0) o.cube holds))
-      | inr ne ↦ omega (arith, fits.0)
+          start_holds m o.state (lemma_of (Steps 0) o.cube) (h.starts none) (bits_opposite m o.cube h.is_cube.in_range) misses in
+          absurd (true≢false (sym h.inside ∙ outside_holds o.state (Steps 0) o.cube holds))
+      | inr ne ↦ omega arith
     ]
 
 -- ---- walks
 
--- the state after some steps lies in the frame of so many steps
-pub reaches : (m : Machine) (lemmas : List Lemma) → Lands m lemmas → (i : ℕ) (s : List Bool) (inputs : List (List Bool)) → Each (IsInput m) inputs → InFrame m lemmas (Steps i) s →
-    InFrame m lemmas (Steps (i + length inputs)) (state_after m s inputs)
-reaches m lemmas lands i s [] inp f =
-    let same : i ≡ i + 0 = omega arith in
-    subst (λ (n : ℕ). InFrame m lemmas (Steps n) s) same f
-reaches m lemmas lands i s (x ∷ xs) inp f =
-    let more : i + 1 + length xs ≡ i + suc (length xs) = omega arith in
-    subst (λ (n : ℕ). InFrame m lemmas (Steps n) (state_after m (next_state m s x) xs)) more
-    (reaches m lemmas lands (i + 1) (next_state m s x) xs (All-tail (IsInput m) x xs inp) (lands i s x f (All-head (IsInput m) x xs inp)))
+pub record Led (m : Machine) (point : ℕ) (s : List Bool) (lines : List (List Bool)) : Type 0 where
+  pub inputs : Each (IsInput m) lines
+  pub last : ℕ
+  pub long : length lines ≡ suc last
+  pub hit : HitsAt m point s lines last
 
-record Led (m : Machine) (point : ℕ) (s : List Bool) (lines : List (List Bool)) : Type 0 where
-  inputs : Each (IsInput m) lines
-  last : ℕ
-  long : length lines ≡ suc last
-  hit : HitsAt m point s lines last
-
-led : (m : Machine) (point : ℕ) (s : List Bool) (lines : List (List Bool)) → LeadsToHit m point s lines → Led m point s lines
+pub led : (m : Machine) (point : ℕ) (s : List Bool) (lines : List (List Bool)) → LeadsToHit m point s lines → Led m point s lines
 led m point s [] h = absurd h
 led m point s (x ∷ []) h = record {
   inputs = All-cons (IsInput m) x [] h.0 (All-nil (IsInput m));
@@ -197,28 +159,54 @@ led m point s (x ∷ y ∷ more) h =
       hit = record { within = omega (arith, rest.long); hit = rest.hit.hit };
     }
 
--- a walk doesn't hit below the depth
-pub misses_below : (m : Machine) (f : Framed) → IsKept m f → (s : List Bool) (lines : List (List Bool)) → IsStart m s → Each (IsInput m) lines → (t : ℕ) → t < f.depth → HitsAt m f.point s lines t → ⊥
-misses_below m f k s lines st inp t low h =
-    let long : length (take t lines) ≡ t = length-take-le t lines (omega (arith, h.within)) in
-    let at : InFrame m f.lemmas (Steps (0 + length (take t lines))) (state_after m s (take t lines)) =
-    reaches m f.lemmas k.lands 0 s (take t lines) (All-take (IsInput m) t lines inp) (start_in_frame m f.lemmas (Steps 0) s k.lemmas st) in
-    let e : 0 + length (take t lines) ≡ t + 1 - 1 = omega arith in
-    k.misses t low (state_after m s (take t lines)) (get_or lines t [])
-    (record {
-      in_frame = subst (λ (n : ℕ). InFrame m f.lemmas (Steps n) (state_after m s (take t lines))) e at;
-      is_input = inp t [] h.within;
-      hit = h.hit;
-    })
+-- the state after one step more
+pub after_more : (m : Machine) (s : List Bool) (lines : List (List Bool)) (t : ℕ) → t < length lines →
+    state_after m s (take (t + 1) lines) ≡ next_state m (state_after m s (take t lines)) (get_or lines t [])
+after_more m s [] t below = absurd (omega arith)
+after_more m s (x ∷ xs) zero below = refl
+after_more m s (x ∷ xs) (suc t) below =
+    let more : suc (t + 1) ≡ suc t + 1 = omega arith in
+    subst (λ (n : ℕ). state_after m s (take n (x ∷ xs)) ≡ next_state m (state_after m (next_state m s x) (take t xs)) (get_or xs t [])) more
+    (after_more m (next_state m s x) xs t (omega arith))
 
--- a trace of one step more than the depth ends at its first hit
-pub first_hit : (m : Machine) (f : Framed) (w : Walk) → IsKept m f → IsTrace m f.point (f.depth + 1) w → EndsAtFirstHit m f.point w
-first_hit m f w k t =
-    let l : Led m f.point w.start w.lines = led m f.point w.start w.lines t.leads in
+-- no step before hits, and this one doesn't
+pub none_more : (m : Machine) (point : ℕ) (s : List Bool) (lines : List (List Bool)) (at : ℕ) → ((t : ℕ) → t < at → HitsAt m point s lines t → ⊥) →
+    value_in_step m (state_after m s (take at lines)) (get_or lines at []) (hit_literal m point) ≡ false → (t : ℕ) → t < at + 1 → HitsAt m point s lines t → ⊥
+none_more m point s lines at none off t below h =
+    elim (cases_eq t at) [
+      | inl e ↦
+          let here : HitsAt m point s lines at = subst (λ (n : ℕ). HitsAt m point s lines n) e h in
+          true≢false (sym here.hit ∙ off)
+      | inr ne ↦ none t (omega arith) h
+    ]
+
+hit-along : (m : Machine) (point : ℕ) (s : List Bool) (lines : List (List Bool)) (at t : ℕ) → t < at → at ≤ length lines → HitsAt m point s (take at lines) t → HitsAt m point s lines t
+hit-along m point s lines at t below all h =
+    let before : take t (take at lines) ≡ take t lines = take-take t at lines (omega arith) in
+    let input : get_or (take at lines) t [] ≡ get_or lines t [] = get_or-take at lines t [] below in
     record {
-      is_walk = record { starts = t.starts; each_input = l.inputs };
-      last = l.last;
-      long = omega (arith, l.long);
-      hit = l.hit;
-      first = λ n low h. misses_below m f k w.start w.lines t.starts l.inputs n (omega (arith, l.long, t.long)) h;
+      within = omega arith;
+      hit = rw (before, input) at h.hit;
     }
+
+hit-back : (m : Machine) (point : ℕ) (s : List Bool) (lines : List (List Bool)) (at t : ℕ) → t < at → at ≤ length lines → HitsAt m point s lines t → HitsAt m point s (take at lines) t
+hit-back m point s lines at t below all h =
+    let before : take t (take at lines) ≡ take t lines = take-take t at lines (omega arith) in
+    let input : get_or (take at lines) t [] ≡ get_or lines t [] = get_or-take at lines t [] below in
+    record {
+      within = omega (arith, length-take-le at lines all);
+      hit = rw (before, input) h.hit;
+    }
+
+-- a walk up to its first hit
+pub cut_is : (m : Machine) (point : ℕ) (w : Walk) (lines : List (List Bool)) (last : ℕ) → IsTrace m point w → IsFirstHit m point w last → lines ≡ take (last + 1) w.lines →
+    EndsAtFirstHit m point (record { start = w.start; lines = lines })
+cut_is m point w lines last t h same =
+    let l : Led m point w.start w.lines = led m point w.start w.lines t.leads in
+    rw same (record {
+      is_walk = record { starts = t.starts; each_input = All-take (IsInput m) (last + 1) w.lines l.inputs };
+      last = last;
+      long = length-take-le (last + 1) w.lines (omega (arith, h.hit.within));
+      hit = hit-back m point w.start w.lines (last + 1) last (omega arith) (omega (arith, h.hit.within)) h.hit;
+      first = λ n low g. h.first n low (hit-along m point w.start w.lines (last + 1) n (omega arith) (omega (arith, h.hit.within)) g);
+    })

@@ -1,3 +1,4 @@
+pub mod Ascents
 pub mod Found
 pub mod Framed
 pub mod Full

@@ -4,6 +4,7 @@ ghost use Rattle.bit_system.specs.Ladders.{HasStates};
 ghost use Rattle.generalise.specs.Cubes.{HasBits};
 ghost use Rattle.generalise.specs.Effort.{Uses};
 ghost use Rattle.generalise.specs.Frames.{IsLevel, IsLearnable};
+ghost use Rattle.generalise.specs.Parts.{IsPart};
 ghost use Rattle.ic3_frames.specs.Queries.{StepsInto, Finds};
 
 use crate::query::{Query, query_step};
@@ -115,6 +116,7 @@ pub fn smaller(
     requires states { All (HasStates system.now) lemmas.old }
     requires learnable { IsLearnable system.now lemmas.old level cube.now }
     ensures learnable { IfOk result (λ c. IsLearnable system.now lemmas.old level c) }
+    ensures part { IfOk result (λ c. IsPart c cube.now) }
     ensures lemmas { lemmas.new ≡ lemmas.old }
     ensures uses { Uses units.old units.new }
 {

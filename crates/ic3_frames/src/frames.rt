@@ -1,5 +1,5 @@
 //! The frames of a search.
-ghost use Rattle.std.specs.Prelude.{◌≡◌, ◌+◌, ◌^◌, ◌<◌, ◌∷◌, ◌++◌, [], All, IfOk, OnErr, OnOk, List, IsTrue, Contains, length, map, slice_index_or, HoldsAt};
+ghost use Rattle.std.specs.Prelude.{◌≡◌, ◌+◌, ◌^◌, ◌<◌, ◌≤◌, ◌∷◌, ◌++◌, [], All, IfOk, OnErr, OnOk, List, IsTrue, Contains, length, map, slice_index_or, HoldsAt};
 ghost use Rattle.std.specs.List.{remove};
 ghost use Rattle.bit_system.specs.Machine.{Machine};
 ghost use Rattle.bit_system.specs.declared.ladder.StateLit.{StateLit as BitLit};
@@ -8,9 +8,10 @@ ghost use Rattle.bit_system.specs.declared.ladder.Depth.TheVariants.{Steps};
 ghost use Rattle.generalise.specs.Cubes.{HasBits, lemma_of, opposite};
 ghost use Rattle.generalise.specs.Effort.{Uses};
 ghost use Rattle.generalise.specs.Frames.{IsLearnable};
+ghost use Rattle.ic3_frames.specs.Ascents.{IsHighest, KeepsOut, LieIn};
 ghost use Rattle.ic3_frames.specs.Known.{Subsumes, IsNeedless};
 ghost use Rattle.ic3_frames.specs.Queries.{Finds, Hits, StepsInto};
-ghost use Rattle.ic3_frames.specs.Raised.{IsLeft, IsPlace};
+ghost use Rattle.ic3_frames.specs.Raised.{AreSameUpTo, IsLeft, IsPlace};
 ghost use Rattle.ic3_frames.specs.Rules.{IsKept, MissesHit, KeptFramesKeepTheRules};
 
 use crate::asker::{query_cube, smaller};
@@ -199,34 +200,67 @@ impl Frames {
         Ok(())
     }
 
-    /// Blocks the cube at this level, by a part of it.
+    /// The highest level up to `top` at which the cube is blocked, or the one that was come to where the effort is
+    /// used.
+    fn ascend(
+        &mut self,
+        system: &System,
+        cube: &Cube,
+        level: u64,
+        top: u64,
+        units: &mut Units,
+    ) -> Result<u64, Memory>
+        requires kept { IsKept system.now self.old }
+        requires level { 0 < level }
+        requires learnable { IsLearnable system.now self.old.lemmas (Steps level) cube.now }
+        ensures highest { IfOk result (IsHighest system.now self.old.lemmas cube.now level top units.new) }
+        ensures same { self.new ≡ self.old }
+        ensures uses { Uses units.old units.new }
+    {
+        let mut high = level;
+        while high < top {
+            match self.query_step(system, cube, high + 1, units)? {
+                Query::Refuted => high += 1,
+                Query::Found(_, _) => return Ok(high),
+                Query::Spent => return Ok(high),
+            }
+        }
+        Ok(high)
+    }
+
+    /// Blocks the cube, which is blocked at this level, at the highest level up to `top` at which it is, by a part
+    /// of it, and gives that level. At a lower one parts are blocked too that aren't above.
     pub(crate) fn block(
         &mut self,
         system: &System,
         cube: &Cube,
         level: u64,
+        top: u64,
         units: &mut Units,
-    ) -> Result<(), Memory>
+    ) -> Result<u64, Memory>
         requires kept { IsKept system.now self.old }
         requires level { 0 < level }
         requires learnable { IsLearnable system.now self.old.lemmas (Steps level) cube.now }
+        ensures above { IfOk result (λ high. level ≤ high) }
+        ensures blocked { IfOk result (λ high. KeepsOut system.now self.new.lemmas high cube.now) }
         ensures kept { IsKept system.now self.new }
         ensures point { self.new.point ≡ self.old.point }
         ensures depth { self.new.depth ≡ self.old.depth }
         ensures uses { Uses units.old units.new }
     {
         let alloc = self.alloc;
+        let high = self.ascend(system, cube, level, top, units)?;
         let part = smaller(
             alloc,
             system,
             &mut self.lemmas,
             cube,
-            Depth::Steps(level),
+            Depth::Steps(high),
             units,
         )?;
-        self.learn(&part, level)?;
+        self.learn(&part, high)?;
         self.tidy();
-        Ok(())
+        Ok(high)
     }
 
     /// Whether the last lemma makes the one at this place needless.
@@ -243,6 +277,7 @@ impl Frames {
         requires at { at + 1 < length self.old.lemmas }
         requires needless { IsNeedless self.old.lemmas at }
         ensures lemmas { self.new ≡ record self.old { lemmas = remove self.old.lemmas at } }
+        ensures within { LieIn self.new.lemmas self.old.lemmas }
         ensures kept { (m : Machine) → IsKept m self.old → IsKept m self.new }
     {
         self.lemmas.remove(at);
@@ -250,6 +285,7 @@ impl Frames {
 
     /// Forgets the lemmas that the last one makes needless.
     fn tidy(&mut self)
+        ensures within { LieIn self.new.lemmas self.old.lemmas }
         ensures kept { (m : Machine) → IsKept m self.old → IsKept m self.new }
         ensures point { self.new.point ≡ self.old.point }
         ensures depth { self.new.depth ≡ self.old.depth }
@@ -274,16 +310,16 @@ impl Frames {
         requires kept { IsKept system.now self.old }
         requires at { at < length self.old.lemmas }
         requires level { HoldsAt (λ l. l.level ≡ Steps level) self.old.lemmas at }
+        requires room { level + 1 < 2 ^ 64 }
         ensures kept { IsKept system.now self.new }
-        ensures place { IfOk result (IsPlace self.old.lemmas self.new.lemmas at level units.new) }
+        ensures place { IfOk result (IsPlace system.now self.old.lemmas self.new.lemmas at level units.new) }
+        ensures same { AreSameUpTo system.now level self.old.lemmas self.new.lemmas }
         ensures length { length self.new.lemmas ≡ length self.old.lemmas }
         ensures point { self.new.point ≡ self.old.point }
         ensures depth { self.new.depth ≡ self.old.depth }
         ensures uses { Uses units.old units.new }
     {
-        let Some(next) = level.checked_add(1) else {
-            return Ok(Level::Left);
-        };
+        let next = level + 1;
         let cube = cube_of(self.alloc, &self.lemmas.as_slice()[at])?;
         match self.query_step(system, &cube, next, units)? {
             Query::Refuted => {
@@ -306,8 +342,10 @@ impl Frames {
     ) -> Result<Level, Memory>
         requires kept { IsKept system.now self.old }
         requires at { at < length self.old.lemmas }
+        requires room { level + 1 < 2 ^ 64 }
         ensures kept { IsKept system.now self.new }
-        ensures place { IfOk result (IsPlace self.old.lemmas self.new.lemmas at level units.new) }
+        ensures place { IfOk result (IsPlace system.now self.old.lemmas self.new.lemmas at level units.new) }
+        ensures same { AreSameUpTo system.now level self.old.lemmas self.new.lemmas }
         ensures length { length self.new.lemmas ≡ length self.old.lemmas }
         ensures point { self.new.point ≡ self.old.point }
         ensures depth { self.new.depth ≡ self.old.depth }
@@ -328,7 +366,9 @@ impl Frames {
     ) -> Result<Level, Memory>
         requires kept { IsKept system.now self.old }
         requires level { 0 < level }
+        requires room { level + 1 < 2 ^ 64 }
         ensures kept { IsKept system.now self.new }
+        ensures same { AreSameUpTo system.now level self.old.lemmas self.new.lemmas }
         ensures left { IfOk result (IsLeft system.now self.new level units.new) }
         ensures point { self.new.point ≡ self.old.point }
         ensures depth { self.new.depth ≡ self.old.depth }

@@ -6,6 +6,7 @@ mod asker;
 mod frames;
 mod obligation;
 mod query;
+mod replay;
 mod search;
 mod solve;
 mod turn;

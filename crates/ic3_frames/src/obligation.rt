@@ -11,12 +11,14 @@ use std::alloc::{AllocError, Global};
 use std::collections::VecDeque;
 use std::marker::Model;
 
-/// A cube that leads to a hit, the input with which it does, and one of its states.
+/// A cube that leads to a hit, the input with which it does, one of its states, and the level at which it has to be
+/// blocked.
 #[derive(Drop)]
 pub struct Obligation {
     pub cube: Cube,
     pub input: Items<bool>,
     pub state: Items<bool>,
+    pub level: u64,
 }
 
 /// The part of the state that forces the goal literals under the input.
@@ -26,15 +28,21 @@ pub fn lift(
     state: Items<bool>,
     input: Items<bool>,
     goal: &[u32],
+    level: u64,
 ) -> Result<Obligation, Memory>
     requires state { IsState system.now state }
     requires input { IsInput system.now input }
     requires exist { All (IsLiteral system.now.graph) goal.now }
     requires forced { All (λ x. value_in_step system.now state input x ≡ true) goal.now }
-    ensures { IfOk result (IsLifted system.now state input goal.now) }
+    ensures { IfOk result (IsLifted system.now state input goal.now level) }
 {
     let cube = shrink_state(alloc, system, state.as_slice(), input.as_slice(), goal)?;
-    Ok(Obligation { cube, input, state })
+    Ok(Obligation {
+        cube,
+        input,
+        state,
+        level,
+    })
 }
 
 /// Obligations, each of which leads to the next one.

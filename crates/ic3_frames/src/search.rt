@@ -1,11 +1,11 @@
 //! Blocking what leads to a hit.
-ghost use Rattle.std.specs.Prelude.{◌≡◌, ℕ, ◌<◌, ◌≤◌, ◌+◌, ◌^◌, ◌∷◌, [], ◌++◌, true, false, All, IfNone, IfOk, IfSome, OnOk, length, map};
+ghost use Rattle.std.specs.Prelude.{◌≡◌, ℕ, ◌<◌, ◌≤◌, ◌+◌, ◌^◌, ◌∷◌, [], true, false, All, IfNone, IfOk, IfSome, OnOk, length, map};
 ghost use Rattle.aig_core.specs.Graph.{IsLiteral};
-ghost use Rattle.bit_system.specs.Machine.{IsState};
+ghost use Rattle.bit_system.specs.Machine.{Machine, IsStart, IsState};
 ghost use Rattle.generalise.specs.Cubes.{HasBits, misses_start};
 ghost use Rattle.generalise.specs.Effort.{Uses};
 ghost use Rattle.ic3_frames.specs.Full.{IsLike, or_else};
-ghost use Rattle.ic3_frames.specs.Obligations.{Chain, Fits, IsPutBefore, LeadsInto};
+ghost use Rattle.ic3_frames.specs.Obligations.{Chain, LeadsInto};
 ghost use Rattle.ic3_frames.specs.Queries.{all_true_after, true_after};
 ghost use Rattle.ic3_frames.specs.Rules.{IsKept, MissesHit};
 ghost use Rattle.ic3_frames.specs.Searching.{IsEnding, IsProgress, IsTrace};
@@ -14,6 +14,7 @@ ghost use Rattle.ic3_frames.specs.Turns.{IsRaised, IsTurn};
 use crate::frames::{Frames, Level};
 use crate::obligation::{Obligation, Obligations, lift};
 use crate::query::Query;
+use crate::replay::cut;
 use crate::turn::Turn;
 use crate::walk::Walk;
 use aig_core::negated;
@@ -70,7 +71,7 @@ fn walk_of(
 ) -> Result<Walk, Memory>
     requires chain { Chain system.now point (first ∷ rest.old) }
     requires start { misses_start system.now first.cube ≡ false }
-    ensures { IfOk result (IsTrace system.now point (length rest.old + 1)) }
+    ensures { IfOk result (IsTrace system.now point) }
 {
     // Shows that the parts of the system fit.
     let _nodes = system.node_count();
@@ -136,46 +137,87 @@ fn put_before(
     state: Items<bool>,
     input: Items<bool>,
 ) -> Result<(), Memory>
+    requires level { 0 < first.level }
+    requires starts { first.level ≡ 1 → IsStart system.now state }
     requires steps { LeadsInto system.now first.cube state input }
     requires chain { Chain system.now point (first ∷ rest.old) }
-    ensures { OnOk result (IsPutBefore system.now point state (first ∷ rest.old) rest.new) }
+    ensures { OnOk result (Chain system.now point rest.new) }
 {
     // Shows that the parts of the system fit.
     let _nodes = system.node_count();
     let goal = all_true_after_step(alloc, system, &first.cube)?;
-    let next = lift(alloc, system, state, input, goal.as_slice())?;
+    let next = lift(
+        alloc,
+        system,
+        state,
+        input,
+        goal.as_slice(),
+        first.level - 1,
+    )?;
     rest.push(first)?;
     rest.push(next)?;
     Ok(())
 }
 
-/// Blocks the first obligation, or puts one before it that leads into it.
+/// Where so many obligations wait, a blocked one isn't put back: a hit that is farther away would take a lemma for each
+/// state on the way to it, and each query asks about all lemmas.
+const MANY: usize = 256;
+
+/// Puts the obligation back, to be blocked one level higher, where it is blocked below the frontier's level and not many
+/// others wait.
+fn put_back(
+    first: Obligation,
+    blocked: u64,
+    frontier: u64,
+    rest: &mut Obligations,
+) -> Result<(), Memory>
+    ensures { OnOk result ((m : Machine) (point : ℕ) → Chain m point (first ∷ rest.old) → Chain m point rest.new) }
+{
+    if blocked >= frontier || rest.len() >= MANY {
+        return Ok(());
+    }
+    let Obligation {
+        cube,
+        input,
+        state,
+        level: _,
+    } = first;
+    rest.push(Obligation {
+        cube,
+        input,
+        state,
+        level: blocked + 1,
+    })
+}
+
+/// Blocks the first obligation at the highest level at which it can be, or puts one before it that leads into it. A
+/// blocked one goes on for the levels above, up to the frontier's.
 fn lead(
     alloc: Global,
     system: &System,
     frames: &mut Frames,
     first: Obligation,
     rest: &mut Obligations,
-    most: u64,
     units: &mut Units,
 ) -> Result<Option<Ending>, Memory>
     requires kept { IsKept system.now frames.old }
     requires chain { Chain system.now frames.old.point (first ∷ rest.old) }
     requires misses { misses_start system.now first.cube ≡ true }
-    requires most { length rest.old + 1 < most }
+    requires level { 0 < first.level }
+    requires room { frames.old.depth + 1 < 2 ^ 64 }
     ensures chain { IfOk result (λ r. IfNone r (Chain system.now frames.old.point rest.new)) }
-    ensures fits { IfOk result (λ r. IfNone r (Fits system.now most rest.new)) }
     ensures used { IfOk result (λ r. IfNone r (units.old.used < units.new.used)) }
-    ensures ending { IfOk result (λ r. IfSome r (IsEnding system.now frames.old.point most units.new)) }
+    ensures ending { IfOk result (λ r. IfSome r (IsEnding system.now frames.old.point units.new)) }
     ensures kept { IsKept system.now frames.new }
     ensures point { frames.new.point ≡ frames.old.point }
     ensures depth { frames.new.depth ≡ frames.old.depth }
     ensures uses { Uses units.old units.new }
 {
-    let level = most - (rest.len() as u64 + 1);
-    match frames.query_step(system, &first.cube, level, units)? {
+    let depth = frames.depth();
+    match frames.query_step(system, &first.cube, first.level, units)? {
         Query::Refuted => {
-            frames.block(system, &first.cube, level, units)?;
+            let blocked = frames.block(system, &first.cube, first.level, depth + 1, units)?;
+            put_back(first, blocked, depth, rest)?;
             Ok(None)
         }
         Query::Found(state, input) => {
@@ -192,15 +234,13 @@ fn advance(
     system: &System,
     frames: &mut Frames,
     stack: &mut Obligations,
-    most: u64,
     units: &mut Units,
 ) -> Result<Progress, Memory>
     requires kept { IsKept system.now frames.old }
     requires chain { Chain system.now frames.old.point stack.old }
-    requires fits { Fits system.now most stack.old }
-    ensures chain { IfOk result (IsProgress system.now frames.old.point most units.new (Chain system.now frames.old.point stack.new) (Unit {0})) }
-    ensures fits { IfOk result (IsProgress system.now frames.old.point most units.new (Fits system.now most stack.new) (Unit {0})) }
-    ensures used { IfOk result (IsProgress system.now frames.old.point most units.new (units.old.used < units.new.used) (Unit {0})) }
+    requires room { frames.old.depth + 1 < 2 ^ 64 }
+    ensures chain { IfOk result (IsProgress system.now frames.old.point units.new (Chain system.now frames.old.point stack.new) (Unit {0})) }
+    ensures used { IfOk result (IsProgress system.now frames.old.point units.new (units.old.used < units.new.used) (Unit {0})) }
     ensures kept { IsKept system.now frames.new }
     ensures point { frames.new.point ≡ frames.old.point }
     ensures depth { frames.new.depth ≡ frames.old.depth }
@@ -213,7 +253,7 @@ fn advance(
         let walk = walk_of(alloc, system, frames.point(), first, stack)?;
         return Ok(Progress::Ended(Ending::Trace(walk)));
     }
-    match lead(alloc, system, frames, first, stack, most, units)? {
+    match lead(alloc, system, frames, first, stack, units)? {
         None => Ok(Progress::More),
         Some(ending) => Ok(Progress::Ended(ending)),
     }
@@ -225,13 +265,12 @@ fn block_all(
     system: &System,
     frames: &mut Frames,
     first: Obligation,
-    most: u64,
     units: &mut Units,
 ) -> Result<Option<Ending>, Memory>
     requires kept { IsKept system.now frames.old }
     requires chain { Chain system.now frames.old.point (first ∷ []) }
-    requires fits { Fits system.now most (first ∷ []) }
-    ensures ending { IfOk result (λ r. IfSome r (IsEnding system.now frames.old.point most units.new)) }
+    requires room { frames.old.depth + 1 < 2 ^ 64 }
+    ensures ending { IfOk result (λ r. IfSome r (IsEnding system.now frames.old.point units.new)) }
     ensures kept { IsKept system.now frames.new }
     ensures point { frames.new.point ≡ frames.old.point }
     ensures depth { frames.new.depth ≡ frames.old.depth }
@@ -240,7 +279,7 @@ fn block_all(
     let mut stack = Obligations::new(alloc);
     stack.push(first)?;
     loop {
-        match advance(alloc, system, frames, &mut stack, most, units)? {
+        match advance(alloc, system, frames, &mut stack, units)? {
             Progress::More => {}
             Progress::Empty => return Ok(None),
             Progress::Ended(ending) => return Ok(Some(ending)),
@@ -257,8 +296,8 @@ fn meet(
 ) -> Result<Progress, Memory>
     requires kept { IsKept system.now frames.old }
     requires room { frames.old.depth + 1 < 2 ^ 64 }
-    ensures misses { IfOk result (IsProgress system.now frames.old.point (frames.old.depth + 1) units.new (Unit {0}) (MissesHit system.now frames.new.point frames.new.lemmas frames.new.depth)) }
-    ensures used { IfOk result (IsProgress system.now frames.old.point (frames.old.depth + 1) units.new (units.old.used < units.new.used) (units.old.used < units.new.used)) }
+    ensures misses { IfOk result (IsProgress system.now frames.old.point units.new (Unit {0}) (MissesHit system.now frames.new.point frames.new.lemmas frames.new.depth)) }
+    ensures used { IfOk result (IsProgress system.now frames.old.point units.new (units.old.used < units.new.used) (units.old.used < units.new.used)) }
     ensures kept { IsKept system.now frames.new }
     ensures point { frames.new.point ≡ frames.old.point }
     ensures depth { frames.new.depth ≡ frames.old.depth }
@@ -269,8 +308,8 @@ fn meet(
         Query::Refuted => Ok(Progress::Empty),
         Query::Found(state, input) => {
             let hit = system.hit(frames.point());
-            let first = lift(alloc, system, state, input, &[hit])?;
-            match block_all(alloc, system, frames, first, depth + 1, units)? {
+            let first = lift(alloc, system, state, input, &[hit], depth)?;
+            match block_all(alloc, system, frames, first, units)? {
                 None => Ok(Progress::More),
                 Some(ending) => Ok(Progress::Ended(ending)),
             }
@@ -290,7 +329,7 @@ fn clear(
     requires room { frames.old.depth + 1 < 2 ^ 64 }
     ensures misses { IfOk result (λ r. IfNone r (MissesHit system.now frames.new.point frames.new.lemmas frames.new.depth)) }
     ensures used { IfOk result (λ r. IfNone r (units.old.used < units.new.used)) }
-    ensures ending { IfOk result (λ r. IfSome r (IsEnding system.now frames.old.point (frames.old.depth + 1) units.new)) }
+    ensures ending { IfOk result (λ r. IfSome r (IsEnding system.now frames.old.point units.new)) }
     ensures kept { IsKept system.now frames.new }
     ensures point { frames.new.point ≡ frames.old.point }
     ensures depth { frames.new.depth ≡ frames.old.depth }
@@ -328,8 +367,8 @@ impl Frames {
     /// Makes the depth one more, and looks for a level at which the frames are equal. The system is the one that
     /// the frames were made for. After want of memory the frames are kept still.
     ///
-    /// It asks a query for each obligation, some for each lemma that blocks one, and one for each lemma that may
-    /// rise.
+    /// It asks a query for each obligation and each level that it goes up, some for each lemma that blocks one, and
+    /// one for each lemma that may rise. A walk may be longer than the depth.
     pub fn step(&mut self, system: &System, units: &mut Units) -> Result<Turn, Memory>
         requires kept { IsKept system.now self.old }
         ensures turn { IfOk result (IsTurn system.now self.old self.new units.old units.new) }
@@ -345,7 +384,10 @@ impl Frames {
         }
         match clear(alloc, system, self, units)? {
             None => {}
-            Some(Ending::Trace(walk)) => return Ok(Turn::Trace(walk)),
+            Some(Ending::Trace(walk)) => {
+                let walk = cut(alloc, system, self.point(), walk)?;
+                return Ok(Turn::Trace(walk));
+            }
             Some(Ending::Spent) => return Ok(Turn::Spent),
         }
         self.rise(system);

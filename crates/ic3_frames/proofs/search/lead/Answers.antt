@@ -1,4 +1,5 @@
 use Rattle.ic3_frames.proofs.Laws.{none_blocks}
+use Rattle.ic3_frames.proofs.Traces.{starts_before}
 use Rattle.ic3_frames.proofs.search.lead.Goals as goal
 
 pub block-requires-clause-learnable : goal.block-requires-clause-learnable
@@ -9,3 +10,8 @@ block-requires-clause-learnable c =
       misses = c.requires.misses;
       blocked = none_blocks _ _ _ _ found.0;
     })
+
+pub put_before-requires-clause-starts : goal.put_before-requires-clause-starts
+put_before-requires-clause-starts c =
+    let found = rw c.in-Found.is at c.in_ok-query_step.ensures.finds in
+    starts_before _ _ _ _ _ _ found.0

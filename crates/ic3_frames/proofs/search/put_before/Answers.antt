@@ -1,6 +1,6 @@
 use Rattle.std.proofs.Common.{◌∷◌, ap, ◌∙◌}
 use Rattle.ic3_frames.proofs.Bits.{after_all}
-use Rattle.ic3_frames.proofs.Traces.{put_before_is}
+use Rattle.ic3_frames.proofs.Traces.{chain_next}
 use Rattle.ic3_frames.proofs.search.put_before.Goals as goal
 
 pub all_true_after_step-requires : goal.all_true_after_step-requires
@@ -20,5 +20,5 @@ lift-requires-clause-forced c =
 pub returns : goal.returns
 returns c =
     let lifted = rw (c.as_slice.ensures.value, c.in_ok-goal.ensures.value) at c.in_ok-next.ensures in
-    put_before_is c.args.system.now c.args.point c.node_count-nodes.ensures.valid c.args.state c.args.input c.in_ok-next.next c.args.first c.args.rest.now c.push-2.new.self
-    c.requires.chain lifted c.requires.steps (c.in_ok-push-2.ensures ∙ ap (λ os. c.in_ok-next.next ∷ os) c.in_ok-push.ensures)
+    chain_next c.args.system.now c.args.point c.node_count-nodes.ensures.valid c.args.state c.args.input c.in_ok-next.next c.args.first c.args.rest.now c.push-2.new.self
+    c.requires.chain lifted c.requires.steps c.requires.level c.requires.starts (c.in_ok-push-2.ensures ∙ ap (λ os. c.in_ok-next.next ∷ os) c.in_ok-push.ensures)
