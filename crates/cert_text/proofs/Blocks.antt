@@ -17,10 +17,12 @@ use Rattle.line_text.specs.Tagged.{tagged, numbered_of, exact_of, alone_of}
 use Rattle.line_text.proofs.Laws.{IsLineOf, IsReaderOf, some_is, law_line, law_then, law_done, law_as, law_here, law_times, law_until, spell_from, FitFrom, spell_until, FitUntil}
 use Rattle.line_text.proofs.Words.{law_tagged, law_number, law_either, spell_either, FitEither, law_alone, word_from, exact_reader, number_reader}
 use Rattle.cert_text.specs.Points.{IsName}
+use Rattle.cert_text.specs.Kinds.{kinds_word, AreBuilt, kinds_line_of}
 use Rattle.cert_text.specs.Spelling.{bits_word, setup_lines, ladder_lines, body_lines, claim_lines, cert_lines, plain_setup, empty_ladder, FitsSetup, FitsCycles, FitsBody, FitClaims, FitsAt}
 use Rattle.cert_text.specs.Certs.{named_of, point_of, bits_line_of, in_or_end, setup_at, stimulus_at, head_of, behind_head, body_at, claim_from, claim_at, cert_at}
 use Rattle.cert_text.specs.Ladders.{tagged_pair_of, ladder_at, cycles_at}
 use Rattle.cert_text.proofs.Names.{named_reader}
+use Rattle.cert_text.proofs.KindLaws.{kinds_reader}
 use Rattle.cert_text.proofs.ProofLaws.{FitsPair, pair_words, law_pair}
 use Rattle.cert_text.proofs.LadderLaws.{LadderOf, ladder_reader, CyclesOf, cycles_reader}
 use Rattle.cert_text.proofs.PointLaws.{IsPointText, point_reader}
@@ -32,17 +34,17 @@ most = 9223372036854775807
 -- ---- the setup
 
 abbrev spell_from_5 : Setup → List Line
-spell_from_5 z = (tagged (codes "points") (codes "s") ∷ []) ++ []
+spell_from_5 z = (tagged (codes "points") (kinds_word z.kinds) ∷ []) ++ []
 
 abbrev read_from_5 : List ℕ → List ℕ → Source → Read Setup
-read_from_5 top clock s = line_by (exact_of (codes "points") (codes "s")) s >>= λ points. Ok (plain_setup top clock, points.1)
+read_from_5 top clock s = line_by (kinds_line_of (codes "points")) s >>= λ points. Ok (plain_setup top clock points.0, points.1)
 
 abbrev fits_from_5 : List ℕ → List ℕ → Setup → Type 0
-fits_from_5 top clock z = Unit {0} × (z ≡ plain_setup top clock)
+fits_from_5 top clock z = AreBuilt z.kinds × (z ≡ plain_setup top clock z.kinds)
 
 law_from_5 : (top clock : List ℕ) → IsReaderOf spell_from_5 (λ _ z. fits_from_5 top clock z) (read_from_5 top clock)
-law_from_5 top clock = law_then (λ _. tagged (codes "points") (codes "s") ∷ []) (λ _ _. Unit {0}) (line_by (exact_of (codes "points") (codes "s"))) (λ _ _. []) (λ _ _ z. z ≡ plain_setup top clock) (λ _ s. Ok (plain_setup top clock, s)) (λ z. tt)
-    (exact_reader (codes "points") (codes "s") (word_from (codes "points") refl) (word_from (codes "s") refl)) (λ n x f. law_done (plain_setup top clock)) (λ x n z f. refl)
+law_from_5 top clock = law_then (λ k. tagged (codes "points") (kinds_word k) ∷ []) (λ _ k. AreBuilt k) (line_by (kinds_line_of (codes "points"))) (λ _ _. []) (λ k _ z. z ≡ plain_setup top clock k) (λ k s. Ok (plain_setup top clock k, s)) (λ z. z.kinds)
+    (kinds_reader (codes "points") (word_from (codes "points") refl)) (λ n k f. law_done (plain_setup top clock k)) (λ k n z f. ap (λ (y : Setup). y.kinds) f)
 
 abbrev spell_from_4 : Setup → List Line
 spell_from_4 z = (tagged (codes "cycles") (codes "0") ∷ []) ++ spell_from_5 z
@@ -89,8 +91,8 @@ setup_reader = law_as (λ z. (tagged (codes "unr") (codes "1") ∷ []) ++ spell_
     (law_then (λ _. tagged (codes "unr") (codes "1") ∷ []) (λ _ _. Unit {0}) (line_by (exact_of (codes "unr") (codes "1"))) (λ _ z. spell_from_2 z) (λ _ _ z. fits_from_2 z) (λ _ s. read_from_2 s) (λ z. tt)
     (exact_reader (codes "unr") (codes "1") (word_from (codes "unr") refl) (word_from (codes "1") refl)) (λ n x f. law_from_2) (λ x n z f. refl))
     (λ n z f. refl)
-    (λ n z f. record { top = f.1.0; clock = f.1.1.0; plain = f.1.1.1.1.1 })
-    (λ n z f. (tt, (f.top, (f.clock, (tt, (tt, f.plain))))))
+    (λ n z f. record { top = f.1.0; clock = f.1.1.0; kinds = f.1.1.1.1.0; plain = f.1.1.1.1.1 })
+    (λ n z f. (tt, (f.top, (f.clock, (tt, (f.kinds, f.plain))))))
 
 -- ---- stimuli
 

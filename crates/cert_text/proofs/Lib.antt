@@ -2,6 +2,8 @@ pub mod Inputs
 pub mod Names
 pub mod PointLaws
 pub mod BitLaws
+pub mod KindLaws
+mod SetupLines
 pub mod Decimals
 pub mod SomeWords
 pub mod LemmaLaws

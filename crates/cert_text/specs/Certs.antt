@@ -16,6 +16,7 @@ use Rattle.line_text.specs.Tagged.{behind, numbered_of, exact_of, alone_of}
 use Rattle.line_text.specs.Texts.{whole_by}
 use Rattle.cert_text.specs.Points.{is_name}
 use Rattle.cert_text.specs.Tests.{is_point}
+use Rattle.cert_text.specs.Kinds.{kinds_line_of}
 use Rattle.cert_text.specs.Spelling.{plain_setup}
 use Rattle.cert_text.specs.Ladders.{tagged_pair_of, ladder_at, cycles_at}
 
@@ -56,8 +57,8 @@ setup_at s = do
   top ← line_by (named_of (codes "top")) version.1
   clock ← line_by (named_of (codes "clock")) top.1
   cycles ← line_by (exact_of (codes "cycles") (codes "0")) clock.1
-  points ← line_by (exact_of (codes "points") (codes "s")) cycles.1
-  Ok (plain_setup top.0 clock.0, points.1)
+  points ← line_by (kinds_line_of (codes "points")) cycles.1
+  Ok (plain_setup top.0 clock.0 points.0, points.1)
 
 unfoldable pub stimulus_at : Source → Read Stimulus
 stimulus_at s = do

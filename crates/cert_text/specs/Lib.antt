@@ -1,4 +1,5 @@
 pub mod Points
+pub mod Kinds
 pub mod Spelling
 pub mod Tests
 pub mod Ladders

@@ -18,6 +18,7 @@ use Rattle.line_text.specs.Lines.{Line, words, text_of}
 use Rattle.line_text.specs.Tagged.{tagged}
 use Rattle.line_text.specs.Texts.{IsFirstBad as IsFirstBadOf}
 use Rattle.cert_text.specs.Points.{IsName, IsStateName, IsPoint}
+use Rattle.cert_text.specs.Kinds.{kinds_word, AreBuilt}
 
 -- ---- lines, each the list of its words
 
@@ -34,7 +35,7 @@ setup_lines s =
     tagged (codes "top") s.top ∷
     tagged (codes "clock") s.clock ∷
     tagged (codes "cycles") (codes "0") ∷
-    tagged (codes "points") (codes "s") ∷ []
+    tagged (codes "points") (kinds_word s.kinds) ∷ []
 
 -- a state bit's name, with - in front where the literal is negative
 abbrev pub lit_word : NamedLit → List ℕ
@@ -100,17 +101,15 @@ spelling c = text_of (cert_lines c)
 
 -- ---- what has a spelling
 
-abbrev pub statements_alone : Kinds
-statements_alone = record { s = true; b = false; r = false; t = false; f = false }
-
 -- the setting without held inputs, prelude and registers whose arcs are judged
-abbrev pub plain_setup : List ℕ → List ℕ → Setup
-plain_setup top clock = record { top = top; clock = clock; hold = []; cycles = 0; kinds = statements_alone; fsm = [] }
+abbrev pub plain_setup : List ℕ → List ℕ → Kinds → Setup
+plain_setup top clock kinds = record { top = top; clock = clock; hold = []; cycles = 0; kinds = kinds; fsm = [] }
 
 pub record FitsSetup (s : Setup) : Type 0 where
   pub top : IsName s.top
   pub clock : IsName s.clock
-  pub plain : s ≡ plain_setup s.top s.clock
+  pub kinds : AreBuilt s.kinds
+  pub plain : s ≡ plain_setup s.top s.clock s.kinds
 
 abbrev pub FitsLevel : Depth → Type 0
 FitsLevel All = Unit {0}

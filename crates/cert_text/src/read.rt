@@ -10,8 +10,9 @@ ghost use Rattle.cert_text.specs.Answers.{CertAnswers};
 use crate::body::read_body;
 use crate::cert::{Cert, CertClaim};
 use crate::error::CertError;
+use crate::kinds::kinds_line;
 use crate::point::{MAX_NUMBER, is_name, is_point};
-use design_core::setup::{Kinds, Setup};
+use design_core::setup::Setup;
 use line_text::{LineError, Lines, behind, exact_line, number_line};
 use sqlite_items::Items;
 use std::alloc::{AllocError, Global};
@@ -43,14 +44,7 @@ fn setup(alloc: Global, lines: &mut Lines<'_>) -> Result<Setup, LineError>
     let top = name_line(alloc, b"top", lines)?;
     let clock = name_line(alloc, b"clock", lines)?;
     exact_line(b"cycles", b"0", lines)?;
-    exact_line(b"points", b"s", lines)?;
-    let kinds = Kinds {
-        s: true,
-        b: false,
-        r: false,
-        t: false,
-        f: false,
-    };
+    let kinds = kinds_line(b"points", lines)?;
     Ok(Setup {
         top,
         clock,

@@ -8,6 +8,7 @@ ghost use Rattle.cert_text.specs.Spelling.{setup_lines, body_lines, claim_lines,
 ghost use Rattle.cert_text.specs.Written.{FitsButLines, lined, Reads, ReadIsWritten, WrittenIsRead};
 
 use crate::cert::{Body, Cert, CertClaim, NamedLadder};
+use crate::kinds::put_kinds;
 use crate::put::{put_bits, put_inputs, put_number, put_numbered, put_tagged};
 use crate::put_ladder::put_ladder;
 use design_core::setup::{Setup, Stimulus};
@@ -20,7 +21,7 @@ fn put_setup(out: &mut Vec<u8>, setup: &Setup) -> Result<(), AllocError>
     put_tagged(out, b"top", setup.top.bytes())?;
     put_tagged(out, b"clock", setup.clock.bytes())?;
     put_tagged(out, b"cycles", b"0")?;
-    put_tagged(out, b"points", b"s")?;
+    put_kinds(out, b"points", &setup.kinds)?;
     Ok(())
 }
 

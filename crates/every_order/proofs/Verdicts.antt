@@ -7,10 +7,10 @@ use Rattle.cert_text.specs.declared.cert.Cert.{Cert}
 use Rattle.cert_text.specs.declared.claim.Claim.{Claim}
 use Rattle.cert_text.specs.declared.claim.Verdict.{Verdict}
 use Rattle.cert_text.specs.declared.claim.Verdict.TheVariants as verdicts
-use Rattle.source_check.specs.declared.points.Point.{Point}
-use Rattle.source_check.specs.declared.points.Test.{Test}
-use Rattle.source_check.specs.declared.points.Test.TheVariants.{Passed}
-use Rattle.source_check.specs.Points.{points_of, hit_by}
+use Rattle.cover_points.specs.declared.point.Point.{Point}
+use Rattle.cover_points.specs.declared.point.Test.{Test}
+use Rattle.cover_points.specs.declared.point.Test.TheVariants.{Passed}
+use Rattle.cover_points.specs.Points.{points_of, hit_by}
 use Rattle.source_check.specs.Judging.{IsTrueOf}
 use Rattle.elab_flat.proofs.LegalDesigns.{design_is_legal}
 use Rattle.event_order.specs.Laws.{SameVerdicts}

@@ -11,9 +11,9 @@ use Rattle.cert_text.specs.declared.cert.Body.TheVariants.{Reached}
 use Rattle.cert_text.specs.declared.claim.Claim.{Claim}
 use Rattle.cert_text.specs.declared.claim.Verdict.{Verdict}
 use Rattle.cert_text.specs.declared.claim.Verdict.TheVariants as verdicts
-use Rattle.source_check.specs.declared.points.Point.{Point}
+use Rattle.cover_points.specs.declared.point.Point.{Point}
 use Rattle.source_check.specs.Legal.{IsElaborated}
-use Rattle.source_check.specs.Points.{points_of, hit_by}
+use Rattle.cover_points.specs.Points.{points_of, hit_by}
 use Rattle.source_check.specs.Judging.{AreTrue}
 use Rattle.event_order.specs.Verdicts.{IsMachineRun, MachineHitAt, MachineNotWithin, MachineNever}
 

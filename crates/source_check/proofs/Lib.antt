@@ -1,3 +1,4 @@
+pub mod Unlisted
 pub mod OneByOne
 pub mod Placing
 pub mod Systems

@@ -7,11 +7,11 @@ use Rattle.cert_text.specs.declared.cert.CertClaim.{CertClaim}
 use Rattle.cert_text.specs.declared.claim.Claim.{Claim}
 use Rattle.source_check.specs.declared.error.CheckError.{CheckError}
 use Rattle.source_check.specs.declared.error.CheckError.TheVariants.{Source, Cert as Unread, WrongPoint, Missing, NotHit, Ladder, Memory}
-use Rattle.source_check.specs.declared.points.Point.{Point}
+use Rattle.cover_points.specs.declared.point.Point.{Point}
 use Rattle.vlog_syntax.specs.declared.module.Tree.{Tree}
 use Rattle.cert_text.specs.declared.cert.Cert.{Cert}
 use Rattle.source_check.specs.Legal.{IsElaborated}
-use Rattle.source_check.specs.Points.{points_of}
+use Rattle.cover_points.specs.Points.{points_of}
 use Rattle.source_check.specs.Judging.{system_of, Holds, Accepted, FirstFault, JudgesClaim, JudgesClaims, Judges, told}
 use Rattle.bit_system.specs.Machine.{Machine}
 

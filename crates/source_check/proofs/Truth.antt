@@ -20,10 +20,10 @@ use Rattle.cert_text.specs.declared.cert.Body.{Body}
 use Rattle.cert_text.specs.declared.cert.Body.TheVariants.{Reached, Excluded, Open}
 use Rattle.cert_text.specs.declared.claim.Claim.{Claim}
 use Rattle.source_check.specs.declared.error.CheckError.{CheckError}
-use Rattle.source_check.specs.declared.points.Point.{Point}
-use Rattle.source_check.specs.declared.points.Test.{Test}
-use Rattle.source_check.specs.declared.points.Test.TheVariants.{Passed}
-use Rattle.source_check.specs.Points.{points_of, site_of, hit_by}
+use Rattle.cover_points.specs.declared.point.Point.{Point}
+use Rattle.cover_points.specs.declared.point.Test.{Test}
+use Rattle.cover_points.specs.declared.point.Test.TheVariants.{Passed}
+use Rattle.cover_points.specs.Points.{points_of, site_of, hit_by}
 use Rattle.source_check.specs.Ladders.{state_names, ladder_of}
 use Rattle.source_check.specs.Legal.{IsElaborated}
 use Rattle.elab_flat.proofs.LegalDesigns.{design_is_legal}

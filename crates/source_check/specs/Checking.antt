@@ -14,10 +14,10 @@ use Rattle.source_check.specs.declared.error.SourceError.{SourceError}
 use Rattle.source_check.specs.declared.error.SourceError.TheVariants as source
 use Rattle.source_check.specs.declared.error.CheckError.{CheckError}
 use Rattle.source_check.specs.declared.error.CheckError.TheVariants.{Source, Cert as Unread, WrongPoint, Missing, NotHit, Ladder, Memory}
-use Rattle.source_check.specs.declared.points.Front.{Front}
+use Rattle.source_check.specs.declared.listing.Front.{Front}
 use Rattle.elab_flat.specs.Designs.{HasDesign, first_place}
-use Rattle.source_check.specs.Legal.{IsElaborated, TooCostly}
-use Rattle.source_check.specs.Points.{points_of}
+use Rattle.source_check.specs.Legal.{IsElaborated, TooCostly, TooManyPoints}
+use Rattle.cover_points.specs.Points.{points_of}
 use Rattle.source_check.specs.Judging.{Judges, AreTrue}
 
 -- the text is refused for this reason, which isn't want of memory
@@ -38,6 +38,7 @@ ReadsText text (Ok tree) = TextAnswers text (Ok tree)
 ReadsText text (Err (source.Text error)) = TextRefused text error
 ReadsText text (Err (source.NotBuilt at)) = ⊥
 ReadsText text (Err (source.CostOver cost)) = ⊥
+ReadsText text (Err (source.Points error)) = ⊥
 ReadsText text (Err source.Memory) = Unit {0}
 
 -- the text has a tree, and the certificate can be read, and the one is judged by the other with this answer
@@ -45,12 +46,13 @@ abbrev pub ReadAndJudged : List ℕ → List ℕ → Result (List Claim) CheckEr
 ReadAndJudged text cert result = (tree : Tree) × (c : Cert) × TextAnswers text (Ok tree) × CertAnswers cert (Ok c) × Judges tree c result
 
 -- The answer of checking. The first that applies: the text has no tree; the certificate can't be read; the text has no design, or one
--- that costs too much; the first claim that fails; the claims. Nothing where memory ran out.
+-- that costs too much or has too many cover points; the first claim that fails; the claims. Nothing where memory ran out.
 abbrev pub CheckAnswers : List ℕ → List ℕ → Result (List Claim) CheckError → Type 0
 CheckAnswers text cert (Ok claims) = ReadAndJudged text cert (Ok claims)
 CheckAnswers text cert (Err (Source (source.Text error))) = TextRefused text error
 CheckAnswers text cert (Err (Source (source.NotBuilt at))) = ReadAndJudged text cert (Err (Source (source.NotBuilt at)))
 CheckAnswers text cert (Err (Source (source.CostOver cost))) = ReadAndJudged text cert (Err (Source (source.CostOver cost)))
+CheckAnswers text cert (Err (Source (source.Points error))) = ReadAndJudged text cert (Err (Source (source.Points error)))
 CheckAnswers text cert (Err (Source source.Memory)) = ⊥
 CheckAnswers text cert (Err (Unread error)) = (tree : Tree) × TextAnswers text (Ok tree) × CertRefused cert error
 CheckAnswers text cert (Err (WrongPoint line)) = ReadAndJudged text cert (Err (WrongPoint line))
@@ -70,4 +72,5 @@ FrontAnswers text setup (Ok front) =
 FrontAnswers text setup (Err (source.Text error)) = TextRefused text error
 FrontAnswers text setup (Err (source.NotBuilt at)) = (tree : Tree) × TextAnswers text (Ok tree) × (HasDesign tree setup → ⊥) × (at ≡ first_place tree)
 FrontAnswers text setup (Err (source.CostOver cost)) = (tree : Tree) × TextAnswers text (Ok tree) × TooCostly tree setup cost
+FrontAnswers text setup (Err (source.Points error)) = (tree : Tree) × TextAnswers text (Ok tree) × TooManyPoints tree setup error
 FrontAnswers text setup (Err source.Memory) = Unit {0}

@@ -12,6 +12,7 @@ abbrev pub source_fault : SourceError → CheckError
 source_fault (source.Text error) = Source (source.Text error)
 source_fault (source.NotBuilt at) = Source (source.NotBuilt at)
 source_fault (source.CostOver cost) = Source (source.CostOver cost)
+source_fault (source.Points error) = Source (source.Points error)
 source_fault source.Memory = Memory
 
 abbrev pub cert_fault : CertError → CheckError

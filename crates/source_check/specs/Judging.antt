@@ -24,10 +24,10 @@ use Rattle.cert_text.specs.declared.claim.Verdict.TheVariants as verdicts
 use Rattle.source_check.specs.declared.error.SourceError.TheVariants as source
 use Rattle.source_check.specs.declared.error.CheckError.{CheckError}
 use Rattle.source_check.specs.declared.error.CheckError.TheVariants.{Source, Cert as Unread, WrongPoint, Missing, NotHit, Ladder, Memory}
-use Rattle.source_check.specs.declared.points.Point.{Point}
+use Rattle.cover_points.specs.declared.point.Point.{Point}
 use Rattle.elab_flat.specs.Designs.{HasDesign, first_place}
-use Rattle.source_check.specs.Legal.{IsElaborated, TooCostly}
-use Rattle.source_check.specs.Points.{points_of, site_of, hit_by}
+use Rattle.source_check.specs.Legal.{IsElaborated, TooCostly, TooManyPoints}
+use Rattle.cover_points.specs.Points.{points_of, site_of, hit_by}
 use Rattle.source_check.specs.Ladders.{state_names, ladder_of, LadderRefused}
 
 -- ---- acceptance
@@ -155,13 +155,14 @@ FailFirst tree cert fault =
     (d : Design) × IsElaborated tree cert.setup d × FirstFault (system_of d cert.setup) d cert.setup 0 (points_of d cert.setup) cert.claims fault
 
 -- The answer of judging. The claims, where the text has a design and the certificate is accepted for it; the first fault, where it isn't;
--- that the text has no design, or one that costs too much; nothing where memory ran out.
+-- that the text has no design, or one that costs too much or has too many cover points; nothing where memory ran out.
 abbrev pub Judges : Tree → Cert → Result (List Claim) CheckError → Type 0
 Judges tree cert (Ok claims) =
     (d : Design) × IsElaborated tree cert.setup d × Accepted (system_of d cert.setup) d cert.setup 0 (points_of d cert.setup) cert.claims × (claims ≡ map told cert.claims)
 Judges tree cert (Err (Source (source.Text error))) = ⊥
 Judges tree cert (Err (Source (source.NotBuilt at))) = (HasDesign tree cert.setup → ⊥) × (at ≡ first_place tree)
 Judges tree cert (Err (Source (source.CostOver cost))) = TooCostly tree cert.setup cost
+Judges tree cert (Err (Source (source.Points error))) = TooManyPoints tree cert.setup error
 Judges tree cert (Err (Source source.Memory)) = ⊥
 Judges tree cert (Err (Unread error)) = ⊥
 Judges tree cert (Err (WrongPoint line)) = FailFirst tree cert (WrongPoint line)

@@ -1,5 +1,4 @@
 pub mod Legal
-pub mod Points
 pub mod Ladders
 pub mod Places
 pub mod Judging

@@ -6,7 +6,7 @@ ghost use Rattle.source_check.specs.Checking.{CheckAnswers, ClaimsAreTrue, Front
 use crate::error::{CheckError, SourceError};
 use crate::judging::judge;
 use crate::legality::elaborate;
-use crate::points::{Front, points};
+use crate::listing::{Front, listed};
 use crate::reading::tree_of;
 use cert_text::{Claim, read_cert};
 use design_core::setup::Setup;
@@ -24,13 +24,13 @@ pub fn check(alloc: Global, text: &[u8], cert: &[u8]) -> Result<Items<Claim>, Ch
     judge(alloc, &tree, &cert)
 }
 
-/// The legal design of a text under a setup, and its cover points: those of statements, where the setup names
-/// their kind. Other kinds have none so far, and no prelude is looked at.
+/// The legal design of a text under a setup, and its cover points: those of statements and of branch arms, where
+/// the setup names their kinds. Other kinds have none so far, and no prelude is looked at.
 pub fn front(alloc: Global, text: &[u8], setup: &Setup) -> Result<Front, SourceError>
     ensures { FrontAnswers text.now setup.now result }
 {
     let tree = tree_of(alloc, text)?;
     let legal = elaborate(alloc, &tree, setup)?;
-    let points = points(alloc, legal.design(), setup)?;
+    let points = listed(alloc, legal.design(), setup)?;
     Ok(Front { legal, points })
 }

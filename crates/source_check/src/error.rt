@@ -1,6 +1,7 @@
 // Why a text has no design, and why a certificate isn't accepted.
 
 use cert_text::CertError;
+use cover_points::PointError;
 use elab_flat::FlatError;
 use ladder_check::LadderFault;
 use std::alloc::AllocError;
@@ -17,6 +18,8 @@ pub enum SourceError {
     /// Its design costs more than 4,194,304, in the measure of a circuit's size that `plain_blast` gives. The
     /// cost is what it costs, or the greatest u64 where that is less.
     CostOver { cost: u64 },
+    /// Its design has more cover points than there may be. The fault isn't want of memory.
+    Points(PointError),
     /// Memory ran out, or the design would have 2^32 sites or more.
     Memory,
 }

@@ -6,7 +6,7 @@ ghost use Rattle.bit_system.specs.Machine.{IsMachine};
 ghost use Rattle.design_core.specs.Verdicts.{HitAt};
 ghost use Rattle.plain_blast.specs.Plain.{plain_of};
 ghost use Rattle.plain_blast.specs.Bridge.{Bridge};
-ghost use Rattle.source_check.specs.Points.{IsSiteBelow, site_of, hit_by};
+ghost use Rattle.cover_points.specs.Points.{IsSiteBelow, site_of, hit_by};
 ghost use Rattle.source_check.specs.Ladders.{state_names, state_of};
 ghost use Rattle.source_check.specs.Places.{place_in};
 ghost use Rattle.source_check.specs.Judging.{IsRefusal, JudgesLadder, JudgesStimulus, JudgesBody, JudgesClaim, verdict_of, told, JudgesClaims, Judges, AreTrue};
@@ -14,10 +14,11 @@ ghost use Rattle.source_check.specs.Judging.{IsRefusal, JudgesLadder, JudgesStim
 use crate::error::CheckError;
 use crate::ladders::check_named;
 use crate::legality::elaborate;
+use crate::listing::listed;
 use crate::places::{Places, places_of};
-use crate::points::{Point, Test, points};
 use bit_system::{Depth, System};
 use cert_text::{Body, Cert, CertClaim, Claim, NamedLadder, Verdict};
+use cover_points::{Point, Test, sites_of};
 use cycle_model::replay::hits_at;
 use design_core::legal::Legal;
 use design_core::setup::{Setup, Stimulus};
@@ -232,26 +233,6 @@ fn judge_claims(
     Ok(accepted)
 }
 
-/// The sites of points.
-fn sites_of(alloc: Global, points: &[Point]) -> Result<Vec<u32>, AllocError>
-    ensures { IfOk result (λ sites. sites.items ≡ map (λ p. site_of p.test) points.now) }
-{
-    let mut sites = Vec::new(alloc);
-    for point in points {
-        sites.push(site(&point.test))?;
-    }
-    Ok(sites)
-}
-
-/// The site of a point.
-fn site(test: &Test) -> u32
-    ensures { result ≡ site_of test.now }
-{
-    match test {
-        Test::Passed { site } => *site,
-    }
-}
-
 /// The system of a legal design, with a hit literal for each of the points.
 fn system_for(alloc: Global, legal: &Legal, points: &[Point]) -> Result<System, AllocError>
     requires { legal.now.order ≡ [] }
@@ -301,7 +282,7 @@ pub fn judge(alloc: Global, tree: &Tree, cert: &Cert) -> Result<Items<Claim>, Ch
     ensures true_claims { IfOk result (λ claims. AreTrue tree.now cert.now claims) }
 {
     let legal = elaborate(alloc, tree, &cert.setup)?;
-    let points = points(alloc, legal.design(), &cert.setup)?;
+    let points = listed(alloc, legal.design(), &cert.setup)?;
     let listed = points.as_slice();
     let system = system_for(alloc, &legal, listed)?;
     let claims = cert.claims.as_slice();

@@ -6,11 +6,12 @@ mod error;
 mod judging;
 mod ladders;
 mod legality;
+mod listing;
 mod places;
-mod points;
 mod reading;
 
 pub use checking::{check, front};
+pub use cover_points::{Point, Test};
 pub use error::{CheckError, SourceError};
 pub use judging::judge;
-pub use points::{Front, Point, Test};
+pub use listing::Front;

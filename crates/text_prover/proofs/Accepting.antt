@@ -2,6 +2,7 @@
 use Rattle.std.proofs.Common.{◌≡◌, ℕ, List, map, Result, Ok, ap, ◌∙◌, sym, subst}
 use Rattle.vlog_syntax.specs.declared.module.Tree.{Tree}
 use Rattle.vlog_modules.proofs.Once.{one_tree}
+use Rattle.design_core.specs.declared.setup.Kinds.{Kinds}
 use Rattle.cert_text.specs.declared.cert.Cert.{Cert}
 use Rattle.cert_text.specs.declared.claim.Claim.{Claim}
 use Rattle.cert_text.specs.Answers.{CertAnswers}
@@ -14,7 +15,7 @@ use Rattle.text_prover.specs.Making.{IsMade}
 use Rattle.text_prover.specs.Proving.{IsProven, units_of}
 use Rattle.text_prover.proofs.OneAnswer.{one_cert, accepted_is_accepted}
 
-module _ (text top clock : List ℕ) (effort : ℕ) (bytes used given : List ℕ) (made : IsMade text top clock effort bytes used) (same : given ≡ bytes) where
+module _ (text top clock : List ℕ) (kinds : Kinds) (effort : ℕ) (bytes used given : List ℕ) (made : IsMade text top clock kinds effort bytes used) (same : given ≡ bytes) where
   abbrev claims : List Claim
   claims = map told made.cert.claims
 
@@ -37,7 +38,7 @@ module _ (text top clock : List ℕ) (effort : ℕ) (bytes used given : List ℕ
     units : used ≡ map (λ (c : Claim). units_of effort c.verdict) told_claims
     units = made.units ∙ ap (map (λ (c : Claim). units_of effort c.verdict)) (sym these)
 
-  pub is_proven : (p : Proven) → p.cert.items ≡ bytes → p.used ≡ used → CheckAnswers text given (Ok p.claims) → ClaimsAreTrue text given p.claims → IsProven text top clock effort p
+  pub is_proven : (p : Proven) → p.cert.items ≡ bytes → p.used ≡ used → CheckAnswers text given (Ok p.claims) → ClaimsAreTrue text given p.claims → IsProven text top clock kinds effort p
   is_proven p cert_is used_is answers true' =
       let these : p.claims ≡ claims = answers_these (Ok p.claims) answers in
       record {

@@ -17,10 +17,11 @@ use Rattle.cert_text.specs.declared.cert.CertClaim.{CertClaim}
 use Rattle.cert_text.specs.declared.cert.Cert.{Cert}
 use Rattle.cert_text.specs.declared.claim.Claim.{Claim}
 use Rattle.cert_text.specs.Points.{IsPoint}
+use Rattle.cert_text.specs.Kinds.{AreBuilt}
 use Rattle.cert_text.specs.Spelling.{setup_lines, claim_lines, FitsBody}
 use Rattle.cert_text.specs.Written.{lined_from, lined, FitsButLines, Reads}
-use Rattle.source_check.specs.declared.points.Point.{Point}
-use Rattle.source_check.specs.Points.{points_of, site_of}
+use Rattle.cover_points.specs.declared.point.Point.{Point}
+use Rattle.cover_points.specs.Points.{points_of, site_of}
 use Rattle.source_check.specs.Legal.{IsElaborated}
 use Rattle.source_check.specs.Judging.{system_of, Accepted, verdict_of, told}
 use Rattle.elab_flat.proofs.LegalDesigns.{design_is_legal}
@@ -31,7 +32,7 @@ use Rattle.text_prover.specs.Claims.{IsClaimFor, AreClaimsFor}
 use Rattle.text_prover.specs.Making.{IsMade}
 use Rattle.text_prover.proofs.Holding.{some_at, no_prelude, accepted_made}
 use Rattle.text_prover.proofs.Fitting.{body_fits}
-use Rattle.text_prover.proofs.PointNames.{few_points, all_named}
+use Rattle.text_prover.proofs.PointNames.{all_named}
 use Rattle.text_prover.proofs.StateNames.{module_name, top_is_name, clock_is_name, states_are_named, states_distinct}
 
 -- ---- the numbers of lines change nothing
@@ -49,7 +50,7 @@ units_lined effort n (c ∷ cs) = ap (λ (us : List ℕ). units_of effort (verdi
 
 -- ---- the certificate
 
-module _ (text : List ℕ) (tree : Tree) (setup : Setup) (d : Design) (of_text : TextAnswers text (Ok tree)) (is : IsElaborated tree setup d) (plain : setup ≡ setup_of setup.top setup.clock) where
+module _ (text : List ℕ) (tree : Tree) (setup : Setup) (d : Design) (of_text : TextAnswers text (Ok tree)) (is : IsElaborated tree setup d) (built : AreBuilt setup.kinds) (plain : setup ≡ setup_of setup.top setup.clock setup.kinds) where
   abbrev points : List Point
   points = points_of d setup
 
@@ -64,22 +65,22 @@ module _ (text : List ℕ) (tree : Tree) (setup : Setup) (d : Design) (of_text :
     claim_fits k c lt =
         let (p, within, at, p_is) = some_at points k (omega (arith, made.long)) in
         let one : IsClaimFor m k effort (get_or points k p) (get_or claims k c) = made.each k p c within in (
-          subst (λ (name : List ℕ). IsPoint (words name)) (sym one.name) (all_named tree setup d is.design (module_name text tree setup d of_text is.design) k p within),
+          subst (λ (name : List ℕ). IsPoint (words name)) (sym one.name) (all_named tree setup d is.design is.few (module_name text tree setup d of_text is.design) k p within),
           subst FitsBody (sym one.body)
               (body_fits m (states_are_named text tree setup d of_text is.design (sites_of points)) (no_prelude d [] (sites_of points)) effort few k one.found one.proved one.fits),
         )
 
     pub cert_fits : FitsButLines cert
     cert_fits = record {
-      setup = record { top = top_is_name text tree setup d of_text is.design; clock = clock_is_name text tree setup d of_text is.design; plain = plain };
-      count = omega (arith, made.long, few_points tree setup d is.design);
+      setup = record { top = top_is_name text tree setup d of_text is.design; clock = clock_is_name text tree setup d of_text is.design; kinds = built; plain = plain };
+      count = omega (arith, made.long, is.few);
       claims = recursion_from_All (λ (x : CertClaim). IsPoint (words x.point) × FitsBody x.body) claims claim_fits;
     }
 
     abbrev first_line : ℕ
     first_line = length (setup_lines setup) + 2
 
-    pub is_made : (bytes : List ℕ) → Reads bytes (lined cert) → IsMade text setup.top setup.clock effort bytes used
+    pub is_made : (bytes : List ℕ) → Reads bytes (lined cert) → IsMade text setup.top setup.clock setup.kinds effort bytes used
     is_made bytes reads = record {
       tree = tree;
       cert = lined cert;
@@ -113,10 +114,10 @@ one_each legal points sites of_points system exact =
     sym (ap (λ (m : Machine). length m.hits) exact ∙ one_hit_each legal.design legal.order sites ∙ ap length of_points ∙ length-map points (λ (p : Point). site_of p.test))
 
 -- the front's points, their sites and the system that is made of them
-module _ (text : List ℕ) (setup : Setup) (plain : setup ≡ setup_of setup.top setup.clock) (legal : Ordered) (is_legal : IsLegal legal.design legal.order) (points : List Point)
+module _ (text : List ℕ) (setup : Setup) (built : AreBuilt setup.kinds) (plain : setup ≡ setup_of setup.top setup.clock setup.kinds) (legal : Ordered) (is_legal : IsLegal legal.design legal.order) (points : List Point)
     (tree : Tree) (of_text : TextAnswers text (Ok tree)) (is : IsElaborated tree setup legal.design) (listed : points ≡ points_of legal.design setup) where
   pub few : length points ≤ 2 ^ 32
-  few = omega (arith, ap length listed, few_points tree setup legal.design is.design)
+  few = omega (arith, ap length listed, is.few)
 
   module _ (sites : List ℕ) (of_points : sites ≡ sites_of points) (system : Machine) (exact : system ≡ plain_of legal.design legal.order sites) where
     all_sites : sites ≡ sites_of (points_of legal.design setup)
@@ -135,7 +136,7 @@ module _ (text : List ℕ) (setup : Setup) (plain : setup ≡ setup_of setup.top
       its_claims = subst (λ (m : Machine). AreClaimsFor m effort (points_of legal.design setup) claims used) its_system (subst (λ (ps : List Point). AreClaimsFor system effort ps claims used) listed made)
 
       pub made_of_front : (bytes : List ℕ) → (FitsButLines (record { setup = setup; claims = claims }) → Reads bytes (lined (record { setup = setup; claims = claims }))) →
-          IsMade text setup.top setup.clock effort bytes used
+          IsMade text setup.top setup.clock setup.kinds effort bytes used
       made_of_front bytes readable =
-          is_made text tree setup legal.design of_text is plain its_bridge effort small claims used its_claims bytes
-          (readable (cert_fits text tree setup legal.design of_text is plain its_bridge effort small claims used its_claims))
+          is_made text tree setup legal.design of_text is built plain its_bridge effort small claims used its_claims bytes
+          (readable (cert_fits text tree setup legal.design of_text is built plain its_bridge effort small claims used its_claims))

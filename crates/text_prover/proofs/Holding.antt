@@ -15,10 +15,10 @@ use Rattle.plain_blast.specs.Plain.{plain_of}
 use Rattle.plain_blast.specs.Bridge.{Bridge}
 use Rattle.plain_blast.proofs.Cycle.{input_count}
 use Rattle.cert_text.specs.declared.cert.CertClaim.{CertClaim}
-use Rattle.source_check.specs.declared.points.Point.{Point}
-use Rattle.source_check.specs.declared.points.Test.{Test}
-use Rattle.source_check.specs.declared.points.Test.TheVariants.{Passed}
-use Rattle.source_check.specs.Points.{points_of, site_of, hit_by}
+use Rattle.cover_points.specs.declared.point.Point.{Point}
+use Rattle.cover_points.specs.declared.point.Test.{Test}
+use Rattle.cover_points.specs.declared.point.Test.TheVariants.{Passed}
+use Rattle.cover_points.specs.Points.{points_of, site_of, hit_by}
 use Rattle.elab_flat.specs.Designs.{AreDistinct}
 use Rattle.source_check.specs.Ladders.{state_names}
 use Rattle.source_check.specs.Judging.{system_of, Shows, Holds, Accepted, told}

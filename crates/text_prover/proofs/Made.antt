@@ -4,7 +4,7 @@ use Rattle.std.proofs.lemmas.List.{map-append, get_or_default, get_or_append_lef
 use Rattle.std.proofs.lemmas.Bool.{cases_lt}
 use Rattle.bit_system.specs.Machine.{Machine}
 use Rattle.cert_text.specs.declared.cert.CertClaim.{CertClaim}
-use Rattle.source_check.specs.declared.points.Point.{Point}
+use Rattle.cover_points.specs.declared.point.Point.{Point}
 use Rattle.source_check.specs.Judging.{verdict_of}
 use Rattle.text_prover.specs.Proving.{units_of}
 use Rattle.text_prover.specs.Claims.{IsClaimFor, AreMadeUpTo, units_for}

@@ -1,5 +1,5 @@
 -- A text has one tree, one design and, for a certificate that is accepted, one answer.
-use Rattle.std.proofs.Common.{◌≡◌, ℕ, ◌+◌, List, [], ◌∷◌, Result, Ok, Err, refl, ap, ◌∙◌, sym, subst, inl, inr, arith}
+use Rattle.std.proofs.Common.{◌≡◌, ℕ, ◌+◌, List, [], ◌∷◌, length, Result, Ok, Err, refl, ap, ◌∙◌, sym, subst, inl, inr, arith}
 use Rattle.vlog_syntax.specs.declared.module.Tree.{Tree}
 use Rattle.design_core.specs.declared.flat.Design.{Design}
 use Rattle.design_core.specs.declared.setup.Setup.{Setup}
@@ -30,10 +30,12 @@ use Rattle.elab_flat.proofs.OneDesign.{one_design}
 use Rattle.source_check.specs.declared.error.SourceError.TheVariants as source_error
 use Rattle.source_check.specs.declared.error.CheckError.{CheckError}
 use Rattle.source_check.specs.declared.error.CheckError.TheVariants as check_error
-use Rattle.source_check.specs.declared.points.Point.{Point}
-use Rattle.source_check.specs.Legal.{IsElaborated, TooCostly}
+use Rattle.cover_points.specs.declared.point.Point.{Point}
+use Rattle.source_check.specs.Legal.{IsElaborated, TooCostly, TooManyPoints}
 use Rattle.source_check.specs.Ladders.{state_names, ladder_of, LadderRefused}
-use Rattle.source_check.specs.Points.{points_of}
+use Rattle.cover_points.specs.declared.error.PointError.{PointError}
+use Rattle.cover_points.specs.declared.error.PointError.TheVariants as point_error
+use Rattle.cover_points.specs.Points.{points_of}
 use Rattle.source_check.specs.Judging.{system_of, Judges, Holds, Accepted, FirstFault, Fails, FailFirst}
 use Rattle.source_check.specs.Checking.{CheckAnswers, TextRefused, CertRefused, ReadAndJudged}
 use Rattle.text_prover.specs.Laws.{GivesOnly, AcceptedIsAccepted}
@@ -104,6 +106,15 @@ cheap_or_costly tree setup d cost a b =
     let dear = b.2 in
     omega (arith, ap cost_of same)
 
+-- and hasn't too many points
+few_or_many : (tree : Tree) (setup : Setup) (d : Design) (error : PointError) → IsElaborated tree setup d → TooManyPoints tree setup error → ⊥
+few_or_many tree setup d (point_error.TooMany number) a b =
+    let same = one_design tree setup d b.0 a.design b.1.design in
+    let few = a.few in
+    let many = b.2 in
+    omega (arith, ap (λ (x : Design). length (points_of x setup)) same)
+few_or_many tree setup d point_error.Memory a b = b
+
 -- ---- one answer
 
 judged_once : (tree : Tree) (cert : Cert) (claims : List Claim) (answer : Result (List Claim) CheckError) → Judges tree cert (Ok claims) → Judges tree cert answer → GivesOnly claims answer
@@ -111,6 +122,7 @@ judged_once tree cert claims (Ok others) a b = b.3 ∙ sym a.3
 judged_once tree cert claims (Err (check_error.Source (source_error.Text error))) a b = absurd b
 judged_once tree cert claims (Err (check_error.Source (source_error.NotBuilt place))) a b = absurd (b.0 (a.0, a.1.design))
 judged_once tree cert claims (Err (check_error.Source (source_error.CostOver cost))) a b = absurd (cheap_or_costly tree cert.setup a.0 cost a.1 b)
+judged_once tree cert claims (Err (check_error.Source (source_error.Points error))) a b = absurd (few_or_many tree cert.setup a.0 error a.1 b)
 judged_once tree cert claims (Err (check_error.Source source_error.Memory)) a b = absurd b
 judged_once tree cert claims (Err (check_error.Cert error)) a b = absurd b
 judged_once tree cert claims (Err (check_error.WrongPoint line)) a b = absurd (accepted_or_fails tree cert claims (check_error.WrongPoint line) a b)
@@ -132,6 +144,7 @@ module _ (text bytes : List ℕ) (tree : Tree) (cert : Cert) (claims : List Clai
   answered_once (Err (check_error.Source (source_error.Text error))) r = absurd (not_refused text tree error of_text r)
   answered_once (Err (check_error.Source (source_error.NotBuilt place))) r = judged_here (Err (check_error.Source (source_error.NotBuilt place))) r
   answered_once (Err (check_error.Source (source_error.CostOver cost))) r = judged_here (Err (check_error.Source (source_error.CostOver cost))) r
+  answered_once (Err (check_error.Source (source_error.Points error))) r = judged_here (Err (check_error.Source (source_error.Points error))) r
   answered_once (Err (check_error.Source source_error.Memory)) r = absurd r
   answered_once (Err (check_error.Cert error)) r = absurd (not_unread bytes cert error of_bytes r.2)
   answered_once (Err (check_error.WrongPoint line)) r = judged_here (Err (check_error.WrongPoint line)) r

@@ -2,7 +2,7 @@
 use Rattle.std.specs.Prelude.{◌≡◌, ℕ, ◌<◌, List, map, length, slice_index_or}
 use Rattle.bit_system.specs.Machine.{Machine}
 use Rattle.cert_text.specs.declared.cert.CertClaim.{CertClaim}
-use Rattle.source_check.specs.declared.points.Point.{Point}
+use Rattle.cover_points.specs.declared.point.Point.{Point}
 use Rattle.source_check.specs.Judging.{verdict_of}
 use Rattle.point_prover.specs.declared.prover.Proved.{Proved}
 use Rattle.point_prover.specs.declared.prover.Proved.TheVariants.{Reached, Excluded, Open}

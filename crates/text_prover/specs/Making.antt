@@ -6,11 +6,12 @@ use Rattle.plain_blast.specs.Plain.{plain_of}
 use Rattle.plain_blast.specs.Bridge.{Bridge}
 use Rattle.cert_text.specs.declared.cert.CertClaim.{CertClaim}
 use Rattle.cert_text.specs.Written.{lined, FitsButLines, Reads}
-use Rattle.source_check.specs.declared.points.Point.{Point}
-use Rattle.source_check.specs.Points.{site_of}
+use Rattle.cover_points.specs.declared.point.Point.{Point}
+use Rattle.cover_points.specs.Points.{site_of}
 use Rattle.text_prover.specs.Claims.{AreClaimsFor}
 use Rattle.vlog_syntax.specs.declared.module.Tree.{Tree}
 use Rattle.vlog_modules.specs.Answers.{TextAnswers}
+use Rattle.design_core.specs.declared.setup.Kinds.{Kinds}
 use Rattle.design_core.specs.declared.setup.Setup.{Setup}
 use Rattle.cert_text.specs.declared.cert.Cert.{Cert}
 use Rattle.cert_text.specs.declared.claim.Claim.{Claim}
@@ -36,16 +37,16 @@ pub record IsWritten (setup : Setup) (claims : List CertClaim) (used : List ℕ)
   pub units : made.used ≡ used
 
 -- the bytes spell a certificate under these settings that is accepted for the text, and so many units were used for its claims
-pub record IsMade (text top clock : List ℕ) (effort : ℕ) (bytes used : List ℕ) : Type 0 where
+pub record IsMade (text top clock : List ℕ) (kinds : Kinds) (effort : ℕ) (bytes used : List ℕ) : Type 0 where
   pub tree : Tree
   pub cert : Cert
   pub of_text : TextAnswers text (Ok tree)
   pub of_spelling : CertAnswers bytes (Ok cert)
-  pub setup : cert.setup ≡ setup_of top clock
+  pub setup : cert.setup ≡ setup_of top clock kinds
   pub accepted : Judges tree cert (Ok (map told cert.claims))
   pub units : used ≡ map (λ (c : Claim). units_of effort c.verdict) (map told cert.claims)
 
 -- the answer of making it: why there is nothing to make it of, in the words of the front; nothing where memory ran out
 abbrev pub MakeAnswers : List ℕ → Setup → ℕ → Result Made SourceError → Type 0
-MakeAnswers text setup effort (Ok made) = IsMade text setup.top setup.clock effort made.cert.items made.used
+MakeAnswers text setup effort (Ok made) = IsMade text setup.top setup.clock setup.kinds effort made.cert.items made.used
 MakeAnswers text setup effort (Err error) = FrontAnswers text setup (Err error)

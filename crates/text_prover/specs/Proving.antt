@@ -1,7 +1,8 @@
 -- What is proved of a text.
-use Rattle.std.specs.Prelude.{ℕ, ◌≡◌, true, false, List, [], map, Result, Ok, Err}
+use Rattle.std.specs.Prelude.{ℕ, ◌≡◌, List, [], map, Result, Ok, Err}
 use Rattle.vlog_syntax.specs.declared.module.Tree.{Tree}
 use Rattle.vlog_modules.specs.Answers.{TextAnswers}
+use Rattle.design_core.specs.declared.setup.Kinds.{Kinds}
 use Rattle.design_core.specs.declared.setup.Setup.{Setup}
 use Rattle.cert_text.specs.declared.cert.Cert.{Cert}
 use Rattle.cert_text.specs.declared.claim.Claim.{Claim}
@@ -13,14 +14,14 @@ use Rattle.source_check.specs.Judging.{Judges, AreTrue}
 use Rattle.source_check.specs.Checking.{FrontAnswers}
 use Rattle.text_prover.specs.declared.proving.Proven.{Proven}
 
--- the settings under which a text is proved: these names, no prelude, and the points of statements
-abbrev pub setup_of : List ℕ → List ℕ → Setup
-setup_of top clock = record {
+-- the settings under which a text is proved: these names, no prelude, and the points of these kinds
+abbrev pub setup_of : List ℕ → List ℕ → Kinds → Setup
+setup_of top clock kinds = record {
   top = top;
   clock = clock;
   hold = [];
   cycles = 0;
-  kinds = record { s = true; b = false; r = false; t = false; f = false };
+  kinds = kinds;
   fsm = [];
 }
 
@@ -31,17 +32,17 @@ units_of effort Excluded = 0
 units_of effort (Reached cycle) = 0
 
 -- the certificate's text is accepted for the text under these settings, its claims are true, and for each that is open the whole effort was used
-pub record IsProven (text top clock : List ℕ) (effort : ℕ) (p : Proven) : Type 0 where
+pub record IsProven (text top clock : List ℕ) (kinds : Kinds) (effort : ℕ) (p : Proven) : Type 0 where
   pub tree : Tree
   pub cert : Cert
   pub of_text : TextAnswers text (Ok tree)
   pub of_spelling : CertAnswers p.cert.items (Ok cert)
-  pub setup : cert.setup ≡ setup_of top clock
+  pub setup : cert.setup ≡ setup_of top clock kinds
   pub accepted : Judges tree cert (Ok p.claims)
   pub are_true : AreTrue tree cert p.claims
   pub used : p.used ≡ map (λ (c : Claim). units_of effort c.verdict) p.claims
 
 -- the answer of proving: what was proved; or why the text has no points, in the words of the front; nothing where memory ran out
-abbrev pub ProveAnswers : List ℕ → List ℕ → List ℕ → ℕ → Result Proven SourceError → Type 0
-ProveAnswers text top clock effort (Ok p) = IsProven text top clock effort p
-ProveAnswers text top clock effort (Err error) = FrontAnswers text (setup_of top clock) (Err error)
+abbrev pub ProveAnswers : List ℕ → List ℕ → List ℕ → Kinds → ℕ → Result Proven SourceError → Type 0
+ProveAnswers text top clock kinds effort (Ok p) = IsProven text top clock kinds effort p
+ProveAnswers text top clock kinds effort (Err error) = FrontAnswers text (setup_of top clock kinds) (Err error)

@@ -1,7 +1,6 @@
 // A claim for each point of a design.
 
-ghost use Rattle.std.specs.Prelude.{◌≡◌, ◌<◌, ◌≤◌, ◌^◌, length, map, IfOk};
-ghost use Rattle.source_check.specs.Points.{site_of};
+ghost use Rattle.std.specs.Prelude.{◌≡◌, ◌<◌, ◌≤◌, ◌^◌, length, IfOk};
 ghost use Rattle.point_prover.specs.Proved.{IsProved};
 ghost use Rattle.text_prover.specs.Naming.{body_of};
 ghost use Rattle.source_check.specs.Judging.{verdict_of};
@@ -12,31 +11,11 @@ use crate::naming::{named_ladder, stimulus};
 use crate::numbers::numbers_fit;
 use bit_system::System;
 use cert_text::{Body, CertClaim};
+use cover_points::Point;
 use point_prover::{Proved, prove};
-use source_check::{Point, Test};
 use sqlite_items::Items;
 use std::alloc::{AllocError, Global};
 use word_core::Name;
-
-/// The site of a point.
-fn site(test: &Test) -> u32
-    ensures { result ≡ site_of test.now }
-{
-    match test {
-        Test::Passed { site } => *site,
-    }
-}
-
-/// The sites of points.
-pub fn sites_of(alloc: Global, points: &[Point]) -> Result<Vec<u32>, AllocError>
-    ensures { IfOk result (λ sites. sites.items ≡ map (λ p. site_of p.test) points.now) }
-{
-    let mut sites = Vec::new(alloc);
-    for point in points {
-        sites.push(site(&point.test))?;
-    }
-    Ok(sites)
-}
 
 /// What is claimed of the k-th point of a system, of which this was found out.
 fn body(

@@ -1,15 +1,17 @@
 // The certificate of all points of a text.
 
 ghost use Rattle.std.specs.Prelude.{◌≡◌, ◌<◌, ◌≤◌, ◌^◌, length, IfOk};
+ghost use Rattle.cert_text.specs.Kinds.{AreBuilt};
 ghost use Rattle.text_prover.specs.Proving.{setup_of};
 ghost use Rattle.text_prover.specs.Making.{AreClaimed, IsWritten, MakeAnswers};
 
-use crate::claims::{Found, claims, sites_of};
+use crate::claims::{Found, claims};
 use cert_text::{Cert, write_cert};
+use cover_points::{Point, sites_of};
 use design_core::legal::Legal;
 use design_core::setup::Setup;
 use plain_blast::translate;
-use source_check::{Point, SourceError, front};
+use source_check::{SourceError, front};
 use sqlite_items::Items;
 use std::alloc::{AllocError, Global};
 
@@ -52,7 +54,8 @@ fn written(alloc: Global, setup: Setup, found: Found) -> Result<Made, AllocError
 
 /// Searches for each point of a text's design, and writes what is found out.
 pub fn make(alloc: Global, text: &[u8], setup: Setup, effort: u64) -> Result<Made, SourceError>
-    requires plain { setup ≡ setup_of setup.top setup.clock }
+    requires built { AreBuilt setup.kinds }
+    requires plain { setup ≡ setup_of setup.top setup.clock setup.kinds }
     requires some { 0 < effort }
     requires most { effort < 2 ^ 63 }
     ensures { MakeAnswers text.now setup effort result }

@@ -1,5 +1,6 @@
 // A claim for each point of a text, with the certificate that shows them.
 ghost use Rattle.std.specs.Prelude.{◌≡◌, ◌≤◌, ◌^◌, IfOk};
+ghost use Rattle.cert_text.specs.Kinds.{AreBuilt};
 ghost use Rattle.text_prover.specs.Proving.{ProveAnswers, setup_of, IsProven};
 ghost use Rattle.text_prover.specs.Making.{IsMade};
 
@@ -23,21 +24,15 @@ pub struct Proven {
 }
 
 /// The settings under which a text is proved.
-fn setup(alloc: Global, top: &[u8], clock: &[u8]) -> Result<Setup, AllocError>
-    ensures { IfOk result (λ s. s ≡ setup_of top.now clock.now) }
+fn setup(alloc: Global, top: &[u8], clock: &[u8], kinds: Kinds) -> Result<Setup, AllocError>
+    ensures { IfOk result (λ s. s ≡ setup_of top.now clock.now kinds) }
 {
     Ok(Setup {
         top: Name::make(alloc, top)?,
         clock: Name::make(alloc, clock)?,
         hold: Items::new(alloc),
         cycles: 0,
-        kinds: Kinds {
-            s: true,
-            b: false,
-            r: false,
-            t: false,
-            f: false,
-        },
+        kinds,
         fsm: Items::new(alloc),
     })
 }
@@ -58,11 +53,12 @@ fn checked(
     text: &[u8],
     top: &[u8],
     clock: &[u8],
+    kinds: Kinds,
     effort: u64,
     made: Made,
 ) -> Result<Proven, AllocError>
-    requires { IsMade text.now top.now clock.now effort made.cert.items made.used }
-    ensures { IfOk result (IsProven text.now top.now clock.now effort) }
+    requires { IsMade text.now top.now clock.now kinds effort made.cert.items made.used }
+    ensures { IfOk result (IsProven text.now top.now clock.now kinds effort) }
 {
     match check(alloc, text, &made.cert) {
         Ok(claims) => Ok(Proven {
@@ -74,7 +70,7 @@ fn checked(
     }
 }
 
-/// Makes a claim for each statement point of the text's design under this top and this clock, and the certificate of all claims.
+/// Makes a claim for each point of these kinds of the text's design under this top and this clock, and the certificate of all claims.
 ///
 /// `effort` is the number of units that are spent on each point at most: a unit is one ended query of the solver, or one counted conflict.
 pub fn prove_text(
@@ -82,14 +78,16 @@ pub fn prove_text(
     text: &[u8],
     top: &[u8],
     clock: &[u8],
+    kinds: Kinds,
     effort: u64,
 ) -> Result<Proven, SourceError>
+    requires built { AreBuilt kinds }
     requires some { 1 ≤ effort }
     requires most { effort ≤ 10 ^ 18 }
-    ensures { ProveAnswers text.now top.now clock.now effort result }
+    ensures { ProveAnswers text.now top.now clock.now kinds effort result }
 {
-    let setup = setup(alloc, top, clock)?;
+    let setup = setup(alloc, top, clock, kinds)?;
     let made = make(alloc, text, setup, effort)?;
-    let proven = checked(alloc, text, top, clock, effort, made)?;
+    let proven = checked(alloc, text, top, clock, kinds, effort, made)?;
     Ok(proven)
 }

@@ -8,8 +8,11 @@ use Rattle.std.proofs.lemmas.Bool.{leb-true, le-leb, ne_eqb, and_parts, and_from
 use Rattle.std.proofs.lemmas.Bool.Decides.{Decides-eqb}
 use Rattle.unr_engine.specs.declared.options.Key.{Key}
 use Rattle.unr_engine.specs.declared.options.Key.TheVariants.{File, Top, Clock, Out, Effort, Cycles, Points}
-use Rattle.unr_engine.specs.Words.{Entry, IsNoOption, BeginWithOption, BeginWith, AreEntries, values, AreDigits, spelled_after, IsNumber, IsEffort, IsNoPrelude, IsStatements, AskToProve, Command, Prove_file}
-use Rattle.unr_engine.specs.Requests.{is_option, after_hyphen, behind, cut_at_equals, key_named, Read, Gives, Awaits, Wrong, read_value, read_joined, read_flag, read_cut, read_option, read_behind, read_word, Given, Absent, Twice, with_value, Givens, nothing_given, with_entry, Scan, with_read, scanned, first_scan, ended, givens_at, givens_of, once, value_after, number_of, if_positive, effort_of, is_zero, no_prelude, statements_alone, prove_given, prove_of}
+use Rattle.design_core.specs.declared.setup.Kinds.{Kinds}
+use Rattle.cert_text.specs.Kinds.{kinds_named, kinds_of}
+use Rattle.cert_text.proofs.KindLaws.{kinds_take, kinds_again}
+use Rattle.unr_engine.specs.Words.{Entry, IsNoOption, BeginWithOption, BeginWith, AreEntries, values, AreDigits, spelled_after, IsNumber, IsEffort, IsNoPrelude, AreKinds, AskToProve, Command, Prove_file}
+use Rattle.unr_engine.specs.Requests.{is_option, after_hyphen, behind, cut_at_equals, key_named, Read, Gives, Awaits, Wrong, read_value, read_joined, read_flag, read_cut, read_option, read_behind, read_word, Given, Absent, Twice, with_value, Givens, nothing_given, with_entry, Scan, with_read, scanned, first_scan, ended, givens_at, givens_of, once, value_after, number_of, if_positive, effort_of, is_zero, no_prelude, kinds_given, prove_given, prove_of}
 
 -- ---- words that begin with no hyphen
 
@@ -405,16 +408,16 @@ prelude_again [] is = refl
 prelude_again (word ∷ []) is = ap is_zero (number_again word 0 is (omega arith))
 prelude_again (word ∷ other ∷ vs) is = absurd is
 
--- statements
-statements_are : (vs : List (List ℕ)) → statements_alone (more vs Absent) ≡ true → IsStatements vs
-statements_are [] e = tt
-statements_are (word ∷ []) e = (bytes_eq-Decides word (codes "s")).0 e
-statements_are (word ∷ other ∷ vs) e = let k : false ≡ true = ap statements_alone (sym (twice_stays vs)) ∙ e in cc
+-- the kinds of points
+kinds_are : (vs : List (List ℕ)) (kinds : Kinds) → kinds_given (more vs Absent) ≡ Some kinds → AreKinds vs kinds
+kinds_are [] kinds e = let same : kinds_named true true ≡ kinds = cc in sym same
+kinds_are (word ∷ []) kinds e = kinds_take word kinds e
+kinds_are (word ∷ other ∷ vs) kinds e = let k : None ≡ Some kinds = ap kinds_given (sym (twice_stays vs)) ∙ e in cc
 
-statements_again : (vs : List (List ℕ)) → IsStatements vs → statements_alone (more vs Absent) ≡ true
-statements_again [] is = refl
-statements_again (word ∷ []) is = (bytes_eq-Decides word (codes "s")).1 is
-statements_again (word ∷ other ∷ vs) is = absurd is
+kinds_given_again : (vs : List (List ℕ)) (kinds : Kinds) → AreKinds vs kinds → kinds_given (more vs Absent) ≡ Some kinds
+kinds_given_again [] kinds is = ap (λ (k : Kinds). Some k) (sym is)
+kinds_given_again (word ∷ []) kinds (is, built) = ap kinds_of is ∙ kinds_again kinds built
+kinds_given_again (word ∷ other ∷ vs) kinds is = absurd is
 
 -- ---- the words after `prove`
 
@@ -428,25 +431,27 @@ pub record Asked (words : List (List ℕ)) (command : Command) : Type 0 where
   pub top : List ℕ
   pub clock : List ℕ
   pub prefix : List ℕ
+  pub kinds : Kinds
   pub effort : ℕ
-  pub is : Prove_file file top clock prefix effort ≡ command
-  pub ask : AskToProve words file top clock prefix effort
+  pub is : Prove_file file top clock prefix kinds effort ≡ command
+  pub ask : AskToProve words file top clock prefix kinds effort
 
 prove_from : (words : List (List ℕ)) (es : List Entry) (command : Command) → AreEntries es words → prove_given (all_more es nothing_given) ≡ Some command → Asked words command
 prove_from words es command are e =
     let g = all_more es nothing_given in
-    let c = chosen (no_prelude g.cycles && statements_alone g.points) _ command e in
-    let p = and_parts (no_prelude g.cycles) (statements_alone g.points) c.0 in
+    let c = chosen (no_prelude g.cycles) _ command e in
     let file = then_some _ (once g.file) command c.1 in
     let top = then_some _ (once g.top) command file.2 in
     let clock = then_some _ (once g.clock) command top.2 in
     let out = then_some _ (once g.out) command clock.2 in
-    let effort = map_some _ (effort_of g.effort) command out.2 in
+    let kinds = then_some _ (kinds_given g.points) command out.2 in
+    let effort = map_some _ (effort_of g.effort) command kinds.2 in
     record {
       file = file.0;
       top = top.0;
       clock = clock.0;
       prefix = out.0;
+      kinds = kinds.0;
       effort = effort.0;
       is = effort.2;
       ask = record {
@@ -457,8 +462,8 @@ prove_from words es command are e =
         one_clock = one_value (values Clock es) clock.0 clock.1;
         one_prefix = one_value (values Out es) out.0 out.1;
         effort_given = effort_is (values Effort es) effort.0 effort.1;
-        no_prelude = prelude_is (values Cycles es) p.0;
-        statements = statements_are (values Points es) p.1;
+        no_prelude = prelude_is (values Cycles es) c.0;
+        kinds_given = kinds_are (values Points es) kinds.0 kinds.1;
       };
     }
 
@@ -468,17 +473,16 @@ prove_named words command e =
     let b = given_by words h.0 h.1 in
     prove_from words b.0 command b.1 (ap prove_given (sym (added_is b.0 nothing_given) ∙ b.2) ∙ h.2)
 
-given_again : (g : Givens) (file top clock prefix : List ℕ) (effort : ℕ) → (no_prelude g.cycles && statements_alone g.points) ≡ true → once g.file ≡ Some file → once g.top ≡ Some top → once g.clock ≡ Some clock → once g.out ≡ Some prefix → effort_of g.effort ≡ Some effort
-    → prove_given g ≡ Some (Prove_file file top clock prefix effort)
-given_again g file top clock prefix effort t a b c d e = rw (t, a, b, c, d, e) refl
+given_again : (g : Givens) (file top clock prefix : List ℕ) (kinds : Kinds) (effort : ℕ) → no_prelude g.cycles ≡ true → once g.file ≡ Some file → once g.top ≡ Some top → once g.clock ≡ Some clock → once g.out ≡ Some prefix → kinds_given g.points ≡ Some kinds → effort_of g.effort ≡ Some effort
+    → prove_given g ≡ Some (Prove_file file top clock prefix kinds effort)
+given_again g file top clock prefix kinds effort t a b c d k e = rw (t, a, b, c, d, k, e) refl
 
 once_more : (vs : List (List ℕ)) (value : List ℕ) → vs ≡ value ∷ [] → once (more vs Absent) ≡ Some value
 once_more vs value e = ap (λ xs. once (more xs Absent)) e
 
-pub prove_found : (words : List (List ℕ)) (file top clock prefix : List ℕ) (effort : ℕ) → AskToProve words file top clock prefix effort → prove_of words ≡ Some (Prove_file file top clock prefix effort)
-prove_found words file top clock prefix effort ask =
+pub prove_found : (words : List (List ℕ)) (file top clock prefix : List ℕ) (kinds : Kinds) (effort : ℕ) → AskToProve words file top clock prefix kinds effort → prove_of words ≡ Some (Prove_file file top clock prefix kinds effort)
+prove_found words file top clock prefix kinds effort ask =
     let es = ask.entries in
     let g = all_more es nothing_given in
-    let both : (no_prelude g.cycles && statements_alone g.points) ≡ true = and_from (no_prelude g.cycles) (statements_alone g.points) (prelude_again (values Cycles es) ask.no_prelude) (statements_again (values Points es) ask.statements) in
     ap (λ o. option_and_then prove_given o) (all_given es words ask.are_entries ∙ ap (λ x. Some x) (added_is es nothing_given))
-    ∙ given_again g file top clock prefix effort both (once_more (values File es) file ask.one_file) (once_more (values Top es) top ask.one_top) (once_more (values Clock es) clock ask.one_clock) (once_more (values Out es) prefix ask.one_prefix) (effort_again (values Effort es) effort ask.effort_given)
+    ∙ given_again g file top clock prefix kinds effort (prelude_again (values Cycles es) ask.no_prelude) (once_more (values File es) file ask.one_file) (once_more (values Top es) top ask.one_top) (once_more (values Clock es) clock ask.one_clock) (once_more (values Out es) prefix ask.one_prefix) (kinds_given_again (values Points es) kinds ask.kinds_given) (effort_again (values Effort es) effort ask.effort_given)

@@ -1,5 +1,5 @@
 -- The bytes of the files deserve one status.
-use Rattle.std.proofs.Common.{◌≡◌, ◌⊎◌, ℕ, Bool, false, ◌+◌, ◌-◌, ◌^◌, List, [], ◌∷◌, take, Some, Result, Ok, Err, refl, ap, ◌∙◌, sym, subst, inl, inr, arith}
+use Rattle.std.proofs.Common.{◌≡◌, ◌⊎◌, ℕ, Bool, false, ◌+◌, ◌-◌, ◌^◌, List, [], ◌∷◌, length, take, Some, Result, Ok, Err, refl, ap, ◌∙◌, sym, subst, inl, inr, arith}
 use Rattle.unr_io.specs.declared.desk.Kind.TheVariants.{Load, Store}
 use Rattle.unr_io.specs.Desk.{DeskState, Told, Rose}
 use Rattle.unr_io.specs.Sink.{SinkState}
@@ -24,7 +24,9 @@ use Rattle.cert_text.proofs.Whole.{one_certificate, good_or_bad}
 use Rattle.source_check.specs.declared.error.SourceError.TheVariants as source_error
 use Rattle.source_check.specs.declared.error.CheckError.{CheckError}
 use Rattle.source_check.specs.declared.error.CheckError.TheVariants as check_error
-use Rattle.source_check.specs.declared.points.Point.{Point}
+use Rattle.cover_points.specs.declared.error.PointError.{PointError}
+use Rattle.cover_points.specs.declared.error.PointError.TheVariants as point_error
+use Rattle.cover_points.specs.declared.point.Point.{Point}
 use Rattle.elab_flat.proofs.OneDesign.{one_design}
 use Rattle.text_prover.proofs.OneAnswer.{tree_or_error}
 use Rattle.source_check.specs.Checking.{ReadAndJudged}
@@ -38,11 +40,11 @@ use Rattle.ladder_check.proofs.Refused.{refused}
 use Rattle.plain_blast.specs.Cost.{cost_of}
 use Rattle.cert_text.specs.declared.cert.Body.{Body}
 use Rattle.cert_text.specs.declared.cert.Body.TheVariants.{Reached, Excluded, Open}
-use Rattle.source_check.specs.Legal.{IsElaborated, TooCostly}
+use Rattle.source_check.specs.Legal.{IsElaborated, TooCostly, TooManyPoints}
 use Rattle.source_check.specs.Ladders.{state_names, ladder_of, LadderRefused}
 use Rattle.source_check.specs.Judging.{system_of, Judges, Holds, Accepted, FirstFault, Fails, FailFirst}
-use Rattle.source_check.specs.Points.{points_of}
-use Rattle.unr_engine.specs.Statuses.{lex_status, text_status, cert_status, check_status, refusal_status, status_of}
+use Rattle.cover_points.specs.Points.{points_of}
+use Rattle.unr_engine.specs.Statuses.{lex_status, text_status, cert_status, point_status, check_status, refusal_status, status_of}
 use Rattle.unr_engine.specs.declared.stop.Refusal.{Refusal}
 use Rattle.unr_engine.specs.declared.stop.Refusal.TheVariants as refusal
 use Rattle.unr_engine.specs.Words.{Check_files, Names}
@@ -107,10 +109,20 @@ cheap_or_costly tree setup d cost a b =
     let dear = b.2 in
     omega (arith, ap cost_of same)
 
+-- and hasn't too many points
+pub few_or_many : (tree : Tree) (setup : Setup) (d : Design) (error : PointError) → IsElaborated tree setup d → TooManyPoints tree setup error → ⊥
+few_or_many tree setup d (point_error.TooMany number) a b =
+    let same = one_design tree setup d b.0 a.design b.1.design in
+    let few = a.few in
+    let many = b.2 in
+    omega (arith, ap (λ (x : Design). length (points_of x setup)) same)
+few_or_many tree setup d point_error.Memory a b = b
+
 accepted_or_none : (tree : Tree) (cert : Cert) (claims : List Claim) (error : CheckError) → Judges tree cert (Ok claims) → Judges tree cert (Err error) → check_status error ≡ 7
 accepted_or_none tree cert claims (check_error.Source (source_error.Text error)) a b = absurd b
 accepted_or_none tree cert claims (check_error.Source (source_error.NotBuilt place)) a b = absurd (b.0 (a.0, a.1.design))
 accepted_or_none tree cert claims (check_error.Source (source_error.CostOver cost)) a b = absurd (cheap_or_costly tree cert.setup a.0 cost a.1 b)
+accepted_or_none tree cert claims (check_error.Source (source_error.Points error)) a b = absurd (few_or_many tree cert.setup a.0 error a.1 b)
 accepted_or_none tree cert claims (check_error.Source source_error.Memory) a b = absurd b
 accepted_or_none tree cert claims (check_error.Cert error) a b = absurd b
 accepted_or_none tree cert claims (check_error.WrongPoint line) a b = absurd (accepted_or_fails tree cert claims (check_error.WrongPoint line) a b)
@@ -129,10 +141,15 @@ RefusedFor tree setup status = ((status ≡ 4) × (MayBeTaken tree setup → ⊥
 fails_five : (tree : Tree) (cert : Cert) (fault : CheckError) → FailFirst tree cert fault → MayBeTaken tree cert.setup
 fails_five tree cert fault f = (f.0, f.1)
 
+refused_points : (tree : Tree) (setup : Setup) (error : PointError) → TooManyPoints tree setup error → RefusedFor tree setup (point_status error)
+refused_points tree setup (point_error.TooMany number) b = inl (refl, λ x. few_or_many tree setup x.0 (point_error.TooMany number) x.1 b)
+refused_points tree setup point_error.Memory b = absurd b
+
 refused_for : (tree : Tree) (cert : Cert) (error : CheckError) → Judges tree cert (Err error) → RefusedFor tree cert.setup (check_status error)
 refused_for tree cert (check_error.Source (source_error.Text error)) b = absurd b
 refused_for tree cert (check_error.Source (source_error.NotBuilt place)) b = inl (refl, λ x. b.0 (x.0, x.1.design))
 refused_for tree cert (check_error.Source (source_error.CostOver cost)) b = inl (refl, λ x. cheap_or_costly tree cert.setup x.0 cost x.1 b)
+refused_for tree cert (check_error.Source (source_error.Points error)) b = refused_points tree cert.setup error b
 refused_for tree cert (check_error.Source source_error.Memory) b = absurd b
 refused_for tree cert (check_error.Cert error) b = absurd b
 refused_for tree cert (check_error.WrongPoint line) b = inr (inl (refl, fails_five tree cert (check_error.WrongPoint line) b))

@@ -13,6 +13,8 @@ use Rattle.vlog_tokens.specs.declared.error.LexError.{LexError}
 use Rattle.vlog_tokens.specs.declared.error.LexError.TheVariants as lex
 use Rattle.cert_text.specs.declared.error.CertError.{CertError}
 use Rattle.cert_text.specs.declared.error.CertError.TheVariants as cert
+use Rattle.cover_points.specs.declared.error.PointError.{PointError}
+use Rattle.cover_points.specs.declared.error.PointError.TheVariants as point_error
 use Rattle.source_check.specs.declared.error.SourceError.{SourceError}
 use Rattle.source_check.specs.declared.error.SourceError.TheVariants as source
 use Rattle.source_check.specs.declared.error.CheckError.{CheckError}
@@ -22,7 +24,7 @@ use Rattle.unr_engine.specs.declared.stop.Refusal.TheVariants as refusal
 use Rattle.unr_engine.specs.Words.{Command, Check_files, Prove_file, Names, NamesNothing}
 use Rattle.unr_engine.specs.Content.{Work, Answers}
 use Rattle.unr_engine.specs.Ends.{End, Done, Stopped, Not_words, Fault_at, Fault_of_output, Out_of_memory, Not_taken}
-use Rattle.unr_engine.specs.Statuses.{lex_status, parse_status, text_status, cert_status, source_status, check_status, refusal_status, status_of}
+use Rattle.unr_engine.specs.Statuses.{lex_status, parse_status, text_status, cert_status, point_status, source_status, check_status, refusal_status, status_of}
 use Rattle.unr_engine.specs.Messages.{message_of}
 use Rattle.unr_engine.specs.Outcome.{IsFrontOf, next_load, load_calls, loads_of, stores_of, Written, store_calls, failed_call, DeskKept, HasReason, Ran, Ended, Says, Outcome}
 use Rattle.unr_engine.specs.Promises.{AreTold, Accepts, Rejects, calls_for, stores_at, all_calls, MakesCalls, CalledLast, Blames, PutsPart, FilesStay, IsNoneOf, OthersStay}
@@ -57,10 +59,15 @@ of_cert : (error : CertError) → IsRefusalStatus (cert_status error)
 of_cert (cert.BadCert line) = inr (inl refl)
 of_cert cert.Memory = inr (inr refl)
 
+of_point : (error : PointError) → IsRefusalStatus (point_status error)
+of_point (point_error.TooMany number) = inl refl
+of_point point_error.Memory = inr (inr refl)
+
 of_source : (error : SourceError) → IsRefusalStatus (source_status error)
 of_source (source.Text error) = of_text error
 of_source (source.NotBuilt place) = inl refl
 of_source (source.CostOver cost) = inl refl
+of_source (source.Points error) = of_point error
 of_source source.Memory = inr (inr refl)
 
 of_check : (error : CheckError) → IsRefusalStatus (check_status error)
@@ -250,7 +257,7 @@ store_calls_are (file ∷ held) = ap (λ cs. (Store, file.0) ∷ cs) (store_call
 
 work_names : (command : Command) (loaded : List (List ℕ)) (work : Work) → Answers command loaded work → held_names work.stores ≡ stores_of command
 work_names (Check_files file cert) loaded work answer = ap (λ (w : Work). held_names w.stores) answer.3.reported
-work_names (Prove_file file top clock prefix effort) loaded work answer = ap (λ (w : Work). held_names w.stores) answer.2.made
+work_names (Prove_file file top clock prefix kinds effort) loaded work answer = ap (λ (w : Work). held_names w.stores) answer.2.made
 
 whole_front : (names all : List (List ℕ)) → names ≡ all → IsFrontOf names all
 whole_front names all same = ([], append-nil names ∙ same)
@@ -349,7 +356,7 @@ front_with_next (load ∷ loads) (bytes ∷ loaded) name most next =
 -- all loads were made where a command has its answer
 all_loaded : (command : Command) (loaded : List (List ℕ)) (work : Work) → Answers command loaded work → load_calls (loads_of command) loaded ≡ calls_for (loads_of command)
 all_loaded (Check_files file cert) loaded work answer = ap (λ l. load_calls (loads_of (Check_files file cert)) l) answer.2
-all_loaded (Prove_file file top clock prefix effort) loaded work answer = ap (λ l. load_calls (loads_of (Prove_file file top clock prefix effort)) l) answer.1
+all_loaded (Prove_file file top clock prefix kinds effort) loaded work answer = ap (λ l. load_calls (loads_of (Prove_file file top clock prefix kinds effort)) l) answer.1
 
 -- a front of the loads is one of all calls
 front_longer : (part loads stores : List (Kind × List ℕ)) → IsFrontOf part loads → IsFrontOf part (loads ++ stores)

@@ -2,10 +2,12 @@
 use Rattle.std.proofs.Common.{◌≡◌, ℕ, ◌^◌, ◌≤◌, List, [], ◌∷◌, Some, None, refl, ap, ◌∙◌, sym, subst, Bool, cond, true, false, codes, inl, inr, arith}
 use Rattle.std.specs.Str.{bytes_eq}
 use Rattle.std.proofs.lemmas.Slice.Eq.{bytes_eq-Decides}
-use Rattle.unr_engine.specs.declared.options.Key.TheVariants.{Effort}
+use Rattle.unr_engine.specs.declared.options.Key.TheVariants.{Effort, Points}
 use Rattle.unr_io.specs.Desk.{DeskState}
 use Rattle.unr_io.specs.Sink.{SinkState}
-use Rattle.unr_engine.specs.Words.{Command, Check_files, Prove_file, Names, NamesNothing, values, IsEffort}
+use Rattle.design_core.specs.declared.setup.Kinds.{Kinds}
+use Rattle.cert_text.specs.Kinds.{kinds_named, AreBuilt}
+use Rattle.unr_engine.specs.Words.{Command, Check_files, Prove_file, Names, NamesNothing, values, IsEffort, AreKinds}
 use Rattle.unr_engine.specs.Requests.{is_option, check_of, prove_of, command_of, CanRun}
 use Rattle.unr_engine.specs.Ends.{End, Stopped, Not_words}
 use Rattle.unr_engine.specs.Outcome.{Ran, Ended}
@@ -46,7 +48,7 @@ named (name ∷ words) command e = named_if (bytes_eq name (codes "check")) name
 found : (words : List (List ℕ)) (command : Command) → Names words command → command_of words ≡ Some command
 found words (Check_files file cert) names =
     ap command_of names.0 ∙ (ap (λ a. cond a None (cond (is_option cert) None (Some (Check_files file cert)))) (plain file names.1) ∙ ap (λ b. cond b None (Some (Check_files file cert))) (plain cert names.2))
-found words (Prove_file file top clock prefix effort) names = ap command_of names.1 ∙ prove_found names.0 file top clock prefix effort names.2
+found words (Prove_file file top clock prefix kinds effort) names = ap command_of names.1 ∙ prove_found names.0 file top clock prefix kinds effort names.2
 
 pub nothing_named : (words : List (List ℕ)) → command_of words ≡ None → NamesNothing words
 nothing_named words e = λ command names. let k : None ≡ Some command = sym e ∙ found words command names in cc
@@ -61,9 +63,16 @@ effort_fits [] effort is = (omega (arith, is), omega (arith, is))
 effort_fits (word ∷ []) effort (is, some, most) = (some, most)
 effort_fits (word ∷ other ∷ more) effort is = absurd is
 
+kinds_fit : (given : List (List ℕ)) (kinds : Kinds) → AreKinds given kinds → AreBuilt kinds
+kinds_fit [] kinds is = let built : AreBuilt (kinds_named true true) = record { some = refl; alone = refl } in subst AreBuilt (sym is) built
+kinds_fit (word ∷ []) kinds is = is.1
+kinds_fit (word ∷ other ∷ more) kinds is = absurd is
+
 can_run : (words : List (List ℕ)) (command : Command) → Names words command → CanRun command
 can_run words (Check_files file cert) names = tt
-can_run words (Prove_file file top clock prefix effort) names = effort_fits (values Effort names.2.entries) effort names.2.effort_given
+can_run words (Prove_file file top clock prefix kinds effort) names =
+    let effort_is = effort_fits (values Effort names.2.entries) effort names.2.effort_given in
+    (effort_is.0, effort_is.1, kinds_fit (values Points names.2.entries) kinds names.2.kinds_given)
 
 pub can_run_found : (words : List (List ℕ)) (meant : Command) → Some meant ≡ command_of words → CanRun meant
 can_run_found words meant e = can_run words meant (named words meant (sym e))

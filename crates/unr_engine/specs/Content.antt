@@ -1,5 +1,6 @@
 -- What the bytes of its files make a command do.
 use Rattle.std.specs.Prelude.{◌≡◌, ℕ, Bool, false, List, [], ◌∷◌, ◌++◌, Ok, Err, codes}
+use Rattle.design_core.specs.declared.setup.Kinds.{Kinds}
 use Rattle.vlog_syntax.specs.declared.module.Tree.{Tree}
 use Rattle.vlog_modules.specs.Answers.{TextAnswers}
 use Rattle.cert_text.specs.declared.error.CertError.{CertError}
@@ -52,9 +53,9 @@ pub record Report (text spelling : List ℕ) (work : Work) : Type 0 where
   pub reported : work ≡ check_work claims
 
 -- Claims are proved of the text, and the work is made of them.
-pub record Proof (text top clock prefix : List ℕ) (effort : ℕ) (work : Work) : Type 0 where
+pub record Proof (text top clock prefix : List ℕ) (kinds : Kinds) (effort : ℕ) (work : Work) : Type 0 where
   pub proven : Proven
-  pub is_proven : IsProven text top clock effort proven
+  pub is_proven : IsProven text top clock kinds effort proven
   pub made : work ≡ proof_work prefix effort proven
 
 -- FILE alone was loaded.
@@ -73,18 +74,18 @@ CheckRefuses loaded (refusal.Check error) = OfBoth loaded (λ text spelling. Rea
 CheckRefuses loaded (refusal.Source error) = ⊥
 
 -- FILE's text has no points under these names: it is refused, or its design is.
-abbrev pub ProofRefuses : List ℕ → List ℕ → List (List ℕ) → Refusal → Type 0
-ProofRefuses top clock loaded (refusal.Text error) = ⊥
-ProofRefuses top clock loaded (refusal.Cert error) = ⊥
-ProofRefuses top clock loaded (refusal.Check error) = ⊥
-ProofRefuses top clock loaded (refusal.Source error) = OfText loaded (λ text. FrontAnswers text (setup_of top clock) (Err error))
+abbrev pub ProofRefuses : List ℕ → List ℕ → Kinds → List (List ℕ) → Refusal → Type 0
+ProofRefuses top clock kinds loaded (refusal.Text error) = ⊥
+ProofRefuses top clock kinds loaded (refusal.Cert error) = ⊥
+ProofRefuses top clock kinds loaded (refusal.Check error) = ⊥
+ProofRefuses top clock kinds loaded (refusal.Source error) = OfText loaded (λ text. FrontAnswers text (setup_of top clock kinds) (Err error))
 
 -- The work of a command, from the bytes of its files in the order in which they were loaded.
 abbrev pub Answers : Command → List (List ℕ) → Work → Type 0
 Answers (Check_files file cert) loaded work = OfBoth loaded (λ text spelling. Report text spelling work)
-Answers (Prove_file file top clock prefix effort) loaded work = OfText loaded (λ text. Proof text top clock prefix effort work)
+Answers (Prove_file file top clock prefix kinds effort) loaded work = OfText loaded (λ text. Proof text top clock prefix kinds effort work)
 
 -- Why it refuses them.
 abbrev pub Refuses : Command → List (List ℕ) → Refusal → Type 0
 Refuses (Check_files file cert) = CheckRefuses
-Refuses (Prove_file file top clock prefix effort) = ProofRefuses top clock
+Refuses (Prove_file file top clock prefix kinds effort) = ProofRefuses top clock kinds

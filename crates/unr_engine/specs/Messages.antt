@@ -9,6 +9,8 @@ use Rattle.vlog_tokens.specs.declared.error.LexError.TheVariants as lex
 use Rattle.word_core.specs.declared.place.Place.{Place}
 use Rattle.cert_text.specs.declared.error.CertError.{CertError}
 use Rattle.cert_text.specs.declared.error.CertError.TheVariants as cert
+use Rattle.cover_points.specs.declared.error.PointError.{PointError}
+use Rattle.cover_points.specs.declared.error.PointError.TheVariants as point
 use Rattle.source_check.specs.declared.error.SourceError.{SourceError}
 use Rattle.source_check.specs.declared.error.SourceError.TheVariants as source
 use Rattle.source_check.specs.declared.error.CheckError.{CheckError}
@@ -54,10 +56,15 @@ abbrev pub cert_message : CertError → List ℕ
 cert_message (cert.BadCert line) = codes "unr: cert line " ++ (decimal line ++ codes "\n")
 cert_message cert.Memory = memory_message
 
+abbrev pub point_message : PointError → List ℕ
+point_message (point.TooMany number) = codes "unr: source TooMany " ++ (decimal number ++ codes "\n")
+point_message point.Memory = memory_message
+
 abbrev pub source_message : SourceError → List ℕ
 source_message (source.Text error) = text_message error
 source_message (source.NotBuilt place) = place_message place (codes " NotBuilt\n")
 source_message (source.CostOver cost) = codes "unr: source CostOver " ++ (decimal cost ++ codes "\n")
+source_message (source.Points error) = point_message error
 source_message source.Memory = memory_message
 
 -- what is wrong with a line of a proof, and the number that it is about

@@ -23,7 +23,7 @@ IsFrontOfFile load files bytes = (file : List ℕ) × (file_at files load.0 ≡ 
 -- What a command loads, in order: a file's name, and how many bytes of it at most.
 abbrev pub loads_of : Command → List (List ℕ × ℕ)
 loads_of (Check_files file cert) = (file, 4194305) ∷ (cert, 2 ^ 64 - 1) ∷ []
-loads_of (Prove_file file top clock prefix effort) = (file, 4194305) ∷ []
+loads_of (Prove_file file top clock prefix kinds effort) = (file, 4194305) ∷ []
 
 -- The bytes that were loaded are those of the files.
 abbrev pub AreLoaded : List (List ℕ × ℕ) → List (List ℕ) → List (List ℕ × List ℕ) → Type 0
@@ -48,7 +48,7 @@ load_calls (load ∷ loads) (bytes ∷ loaded) = (Load, load.0) ∷ load_calls l
 -- The files that a command stores, in order.
 abbrev pub stores_of : Command → List (List ℕ)
 stores_of (Check_files file cert) = []
-stores_of (Prove_file file top clock prefix effort) = cert_name prefix ∷ list_name prefix ∷ []
+stores_of (Prove_file file top clock prefix kinds effort) = cert_name prefix ∷ list_name prefix ∷ []
 
 -- These files were written, one after the other, and each other file stays.
 abbrev pub Written : List (List ℕ × List ℕ) → List (List ℕ × List ℕ) → List (List ℕ × List ℕ) → Type 0

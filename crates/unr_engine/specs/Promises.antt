@@ -1,5 +1,6 @@
 -- What a run promises, one by one.
 use Rattle.std.specs.Prelude.{◌≡◌, ◌≢◌, ◌⊎◌, ◌↔◌, ℕ, ◌≤◌, List, [], ◌∷◌, ◌++◌, Option, Some, None, Result, Ok, Err, ⊤}
+use Rattle.design_core.specs.declared.setup.Kinds.{Kinds}
 use Rattle.unr_io.specs.declared.desk.Kind.{Kind}
 use Rattle.unr_io.specs.declared.desk.Kind.TheVariants.{Load, Store}
 use Rattle.unr_io.specs.Desk.{DeskState, Told, Tells, Rose, file_at}
@@ -10,7 +11,7 @@ use Rattle.cert_text.specs.declared.error.CertError.{CertError}
 use Rattle.cert_text.specs.declared.claim.Claim.{Claim}
 use Rattle.source_check.specs.declared.error.CheckError.{CheckError}
 use Rattle.source_check.specs.declared.error.SourceError.{SourceError}
-use Rattle.source_check.specs.declared.points.Front.{Front}
+use Rattle.source_check.specs.declared.listing.Front.{Front}
 use Rattle.source_check.specs.Checking.{ReadAndJudged, FrontAnswers}
 use Rattle.every_order.specs.Truth.{AreTrueInEveryOrder}
 use Rattle.text_prover.specs.declared.proving.Proven.{Proven}
@@ -85,22 +86,22 @@ pub record AreStored (prefix cert list : List ℕ) (was is : Told) : Type 0 wher
 -- Claims are proved of the text in FILE, one for each of its points, and each is true in every order of its processes. PREFIX.cert holds their certificate, which is
 -- accepted, PREFIX.excl the points of those that are excluded, and their report is put out, by which each open one used the whole effort.
 -- The status is 1 exactly where one is open.
-pub record Proves (file top clock prefix : List ℕ) (effort status : ℕ) (desk desk' : DeskState) (out out' : SinkState) : Type 0 where
+pub record Proves (file top clock prefix : List ℕ) (kinds : Kinds) (effort status : ℕ) (desk desk' : DeskState) (out out' : SinkState) : Type 0 where
   pub text : List ℕ
-  pub told : AreTold desk.told (Prove_file file top clock prefix effort) (text ∷ [])
+  pub told : AreTold desk.told (Prove_file file top clock prefix kinds effort) (text ∷ [])
   pub proven : Proven
-  pub is_proven : IsProven text top clock effort proven
+  pub is_proven : IsProven text top clock kinds effort proven
   pub are_true : AreTrueInEveryOrder is_proven.tree is_proven.cert proven.claims
   pub stored : Tells desk.told desk'.told (AreStored prefix proven.cert.items (exclusions proven.claims))
   pub reported : out'.written ≡ appended out.written (proof_report effort proven.claims proven.used)
   pub left_open : (status ≡ 1) ↔ (1 ≤ count is_open proven.claims)
 
 -- The text in FILE is refused, or its design, with that status and a message of it.
-pub record ProofRefused (file top clock prefix : List ℕ) (effort status : ℕ) (desk : DeskState) (err err' : SinkState) : Type 0 where
+pub record ProofRefused (file top clock prefix : List ℕ) (kinds : Kinds) (effort status : ℕ) (desk : DeskState) (err err' : SinkState) : Type 0 where
   pub text : List ℕ
-  pub told : AreTold desk.told (Prove_file file top clock prefix effort) (text ∷ [])
+  pub told : AreTold desk.told (Prove_file file top clock prefix kinds effort) (text ∷ [])
   pub error : SourceError
-  pub refused : FrontAnswers text (setup_of top clock) (Err error)
+  pub refused : FrontAnswers text (setup_of top clock kinds) (Err error)
   pub status_is : status ≡ source_status error
   pub says : Says (source_message error) err err'
 
@@ -110,20 +111,20 @@ Fits (Ok front) status = (status ≡ 0) ⊎ ((status ≡ 1) ⊎ (status ≡ 7))
 Fits (Err error) status = Agree status (source_status error)
 
 -- PREFIX.excl holds a front of the new list, and PREFIX.cert the new certificate whole.
-pub record ListBehindCert (file top clock prefix : List ℕ) (effort : ℕ) (was is : Told) : Type 0 where
+pub record ListBehindCert (file top clock prefix : List ℕ) (kinds : Kinds) (effort : ℕ) (was is : Told) : Type 0 where
   pub text : List ℕ
-  pub loaded : AreLoaded (loads_of (Prove_file file top clock prefix effort)) (text ∷ []) was.files
+  pub loaded : AreLoaded (loads_of (Prove_file file top clock prefix kinds effort)) (text ∷ []) was.files
   pub proven : Proven
-  pub is_proven : IsProven text top clock effort proven
+  pub is_proven : IsProven text top clock kinds effort proven
   pub cert_held : file_at is.files (cert_name prefix) ≡ Some proven.cert.items
   pub part : List ℕ
   pub list_held : file_at is.files (list_name prefix) ≡ Some part
   pub front : IsFrontOf part (exclusions proven.claims)
 
 -- PREFIX.excl is what it was, or the new list comes after the new certificate.
-abbrev pub ListComesLast : List ℕ → List ℕ → List ℕ → List ℕ → ℕ → Told → Told → Type 0
-ListComesLast file top clock prefix effort was is =
-    (file_at is.files (list_name prefix) ≡ file_at was.files (list_name prefix)) ⊎ ListBehindCert file top clock prefix effort was is
+abbrev pub ListComesLast : List ℕ → List ℕ → List ℕ → List ℕ → Kinds → ℕ → Told → Told → Type 0
+ListComesLast file top clock prefix kinds effort was is =
+    (file_at is.files (list_name prefix) ≡ file_at was.files (list_name prefix)) ⊎ ListBehindCert file top clock prefix kinds effort was is
 
 -- ---- calls and files
 

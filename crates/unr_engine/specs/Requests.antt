@@ -2,6 +2,8 @@
 use Rattle.std.specs.Prelude.{◌≡◌, ℕ, ◌+◌, ◌-◌, ◌*◌, ◌^◌, ◌≤◌, List, [], ◌∷◌, length, Bool, true, false, ◌&&◌, Option, Some, None, if◌then◌else◌, ◌==◌, nat_le, bytes_eq, codes, ⊤}
 use Rattle.std.specs.Option.{option_map, option_and_then}
 use Rattle.std.specs.Char.{is_ascii_digit}
+use Rattle.design_core.specs.declared.setup.Kinds.{Kinds}
+use Rattle.cert_text.specs.Kinds.{kinds_named, AreBuilt, kinds_of}
 use Rattle.unr_engine.specs.declared.options.Key.{Key}
 use Rattle.unr_engine.specs.declared.options.Key.TheVariants.{File, Top, Clock, Out, Effort, Cycles, Points}
 use Rattle.unr_engine.specs.declared.options.Read.{Read as CodeRead}
@@ -176,17 +178,17 @@ no_prelude Absent = true
 no_prelude (Once word) = is_zero (number_of word)
 no_prelude Twice = false
 
-abbrev pub statements_alone : Given → Bool
-statements_alone Absent = true
-statements_alone (Once word) = bytes_eq word (codes "s")
-statements_alone Twice = false
+abbrev pub kinds_given : Given → Option Kinds
+kinds_given Absent = Some (kinds_named true true)
+kinds_given (Once word) = kinds_of word
+kinds_given Twice = None
 
 -- The command that these values make.
 abbrev pub prove_given : Givens → Option Command
 prove_given g =
-    if no_prelude g.cycles && statements_alone g.points then
-    option_and_then (λ (file : List ℕ). option_and_then (λ (top : List ℕ). option_and_then (λ (clock : List ℕ). option_and_then (λ (prefix : List ℕ).
-    option_map (λ (effort : ℕ). Prove_file file top clock prefix effort) (effort_of g.effort)) (once g.out)) (once g.clock)) (once g.top)) (once g.file)
+    if no_prelude g.cycles then
+    option_and_then (λ (file : List ℕ). option_and_then (λ (top : List ℕ). option_and_then (λ (clock : List ℕ). option_and_then (λ (prefix : List ℕ). option_and_then (λ (kinds : Kinds).
+    option_map (λ (effort : ℕ). Prove_file file top clock prefix kinds effort) (effort_of g.effort)) (kinds_given g.points)) (once g.out)) (once g.clock)) (once g.top)) (once g.file)
     else None
 
 -- ---- commands
@@ -224,12 +226,12 @@ scan_is s = record { awaits = s.awaits; givens = givens_are s.givens }
 
 abbrev pub meaning : Request → Command
 meaning (Check file cert) = Check_files file.now cert.now
-meaning (Prove file top clock prefix effort) = Prove_file file.now top.now clock.now prefix.now effort
+meaning (Prove file top clock prefix kinds effort) = Prove_file file.now top.now clock.now prefix.now kinds effort
 
--- The effort of a command is one that `prove` can be given.
+-- The kinds and the effort of a command are such that `prove` can be given them.
 abbrev pub CanRun : Command → Type 0
 CanRun (Check_files file cert) = ⊤
-CanRun (Prove_file file top clock prefix effort) = (1 ≤ effort) × (effort ≤ 10 ^ 18)
+CanRun (Prove_file file top clock prefix kinds effort) = (1 ≤ effort) × (effort ≤ 10 ^ 18) × AreBuilt kinds
 
 -- The code's form of what the words name.
 abbrev pub ReadsAs : Option Command → Option Request → Type 0

@@ -8,6 +8,8 @@ use Rattle.vlog_tokens.specs.declared.error.LexError.{LexError}
 use Rattle.vlog_tokens.specs.declared.error.LexError.TheVariants as lex
 use Rattle.cert_text.specs.declared.error.CertError.{CertError}
 use Rattle.cert_text.specs.declared.error.CertError.TheVariants as cert
+use Rattle.cover_points.specs.declared.error.PointError.{PointError}
+use Rattle.cover_points.specs.declared.error.PointError.TheVariants as point
 use Rattle.source_check.specs.declared.error.SourceError.{SourceError}
 use Rattle.source_check.specs.declared.error.SourceError.TheVariants as source
 use Rattle.source_check.specs.declared.error.CheckError.{CheckError}
@@ -39,10 +41,15 @@ abbrev pub cert_status : CertError → ℕ
 cert_status (cert.BadCert line) = 5
 cert_status cert.Memory = 7
 
+abbrev pub point_status : PointError → ℕ
+point_status (point.TooMany number) = 4
+point_status point.Memory = 7
+
 abbrev pub source_status : SourceError → ℕ
 source_status (source.Text error) = text_status error
 source_status (source.NotBuilt place) = 4
 source_status (source.CostOver cost) = 4
+source_status (source.Points error) = point_status error
 source_status source.Memory = 7
 
 abbrev pub check_status : CheckError → ℕ

@@ -1,14 +1,16 @@
 -- Which lists of words name which command. The words leave out the program's name.
-use Rattle.std.specs.Prelude.{◌≡◌, ◌≢◌, ◌⊎◌, ℕ, ◌+◌, ◌-◌, ◌*◌, ◌^◌, ◌≤◌, List, [], ◌∷◌, ◌++◌, length, ◌==◌, if◌then◌else◌, String, string_bytes, codes, ⊤}
+use Rattle.std.specs.Prelude.{◌≡◌, ◌≢◌, ◌⊎◌, ℕ, true, ◌+◌, ◌-◌, ◌*◌, ◌^◌, ◌≤◌, List, [], ◌∷◌, ◌++◌, length, ◌==◌, if◌then◌else◌, String, string_bytes, codes, ⊤}
 use Rattle.std.specs.declared.alloc.Global.{Global}
+use Rattle.design_core.specs.declared.setup.Kinds.{Kinds}
+use Rattle.cert_text.specs.Kinds.{kinds_word, kinds_named, AreBuilt}
 use Rattle.unr_engine.specs.declared.options.Key.{Key}
 use Rattle.unr_engine.specs.declared.options.Key.TheVariants.{File, Top, Clock, Out, Effort, Cycles, Points}
 
 pub data Command : Type 0 where
   -- check FILE CERT
   Check_files : (file cert : List ℕ) → Command
-  -- prove FILE --top TOP --clock CLOCK --out PREFIX, and how many units of effort each point may take
-  Prove_file : (file top clock prefix : List ℕ) (effort : ℕ) → Command
+  -- prove FILE --top TOP --clock CLOCK --out PREFIX, the kinds of points, and how many units of effort each may take
+  Prove_file : (file top clock prefix : List ℕ) (kinds : Kinds) (effort : ℕ) → Command
 
 -- A word that begins with a hyphen is an option.
 abbrev pub IsNoOption : List ℕ → Type 0
@@ -81,14 +83,14 @@ IsNoPrelude [] = ⊤
 IsNoPrelude (word ∷ []) = IsNumber word 0
 IsNoPrelude (word ∷ other ∷ more) = ⊥
 
--- The points of statements: their letter, or none is given.
-abbrev pub IsStatements : List (List ℕ) → Type 0
-IsStatements [] = ⊤
-IsStatements (word ∷ []) = word ≡ codes "s"
-IsStatements (word ∷ other ∷ more) = ⊥
+-- The kinds of points: their letters, or those of all kinds that are built where none are given.
+abbrev pub AreKinds : List (List ℕ) → Kinds → Type 0
+AreKinds [] kinds = kinds ≡ kinds_named true true
+AreKinds (word ∷ []) kinds = (word ≡ kinds_word kinds) × AreBuilt kinds
+AreKinds (word ∷ other ∷ more) kinds = ⊥
 
 -- These words stand after `prove`: one file, and each option once at most, in any order.
-pub record AskToProve (words : List (List ℕ)) (file top clock prefix : List ℕ) (effort : ℕ) : Type 0 where
+pub record AskToProve (words : List (List ℕ)) (file top clock prefix : List ℕ) (kinds : Kinds) (effort : ℕ) : Type 0 where
   pub entries : List Entry
   pub are_entries : AreEntries entries words
   pub one_file : values File entries ≡ file ∷ []
@@ -97,12 +99,12 @@ pub record AskToProve (words : List (List ℕ)) (file top clock prefix : List �
   pub one_prefix : values Out entries ≡ prefix ∷ []
   pub effort_given : IsEffort (values Effort entries) effort
   pub no_prelude : IsNoPrelude (values Cycles entries)
-  pub statements : IsStatements (values Points entries)
+  pub kinds_given : AreKinds (values Points entries) kinds
 
 -- The words name this command.
 abbrev pub Names : List (List ℕ) → Command → Type 0
 Names words (Check_files file cert) = (words ≡ codes "check" ∷ file ∷ cert ∷ []) × IsNoOption file × IsNoOption cert
-Names words (Prove_file file top clock prefix effort) = (rest : List (List ℕ)) × (words ≡ codes "prove" ∷ rest) × AskToProve rest file top clock prefix effort
+Names words (Prove_file file top clock prefix kinds effort) = (rest : List (List ℕ)) × (words ≡ codes "prove" ∷ rest) × AskToProve rest file top clock prefix kinds effort
 
 -- They name none.
 abbrev pub NamesNothing : List (List ℕ) → Type 0

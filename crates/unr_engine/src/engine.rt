@@ -4,7 +4,7 @@ ghost use Rattle.unr_io.specs.Desk.{Tells, Rose};
 ghost use Rattle.vlog_modules.specs.declared.error.TextError.{TextError};
 ghost use Rattle.vlog_modules.specs.Answers.{TextAnswers};
 ghost use Rattle.source_check.specs.declared.error.SourceError.{SourceError};
-ghost use Rattle.source_check.specs.declared.points.Front.{Front};
+ghost use Rattle.source_check.specs.declared.listing.Front.{Front};
 ghost use Rattle.source_check.specs.Checking.{FrontAnswers};
 ghost use Rattle.text_prover.specs.Proving.{setup_of};
 ghost use Rattle.unr_engine.specs.Ends.{End, Done, end_of};
@@ -13,6 +13,7 @@ ghost use Rattle.unr_engine.specs.Outcome.{Ran, Ended, Says, Outcome};
 ghost use Rattle.unr_engine.specs.Promises.{Accepts, Rejects, HasText, HaveBytes, Deserve, Agree, Proves, ProofRefused, Fits, ListComesLast, MakesCalls, Blames, PutsPart, FilesStay, OthersStay};
 ghost use Rattle.unr_engine.specs.Requests.{CanRun, meaning};
 ghost use Rattle.unr_engine.specs.Statuses.{text_status, status_of};
+ghost use Rattle.design_core.specs.declared.setup.Kinds.{Kinds};
 ghost use Rattle.unr_engine.specs.Words.{Command, Check_files, Prove_file, Names, NamesNothing, texts};
 
 use crate::check::check_files;
@@ -40,8 +41,9 @@ fn perform<'a, D: Desk, O: Sink>(
             top,
             clock,
             prefix,
+            kinds,
             effort,
-        } => prove_file(alloc, file, top, clock, prefix, effort, desk, out),
+        } => prove_file(alloc, file, top, clock, prefix, kinds, effort, desk, out),
     }
 }
 
@@ -107,18 +109,18 @@ pub fn run<D: Desk, O: Sink, E: Sink>(
     ensures text_first { (file cert text : List ℕ) (error : TextError) → Names (texts words.now) (Check_files file cert) → HasText (D.state desk.old).told file text → TextAnswers text (Err error) → (Rose (D.state desk.old).faults (D.state desk.new).faults → ⊥) → (Rose (O.state out.old).faults (O.state out.new).faults → ⊥) → Agree result (text_status error) }
 
     // `prove` ends with 0 or 1 only where it has one claim for each point of FILE's text that is true in every order of its processes, and stored and put out what it says of them. It ends with 1 exactly where one of them is open.
-    ensures proves { (file top clock prefix : List ℕ) (effort : ℕ) → Names (texts words.now) (Prove_file file top clock prefix effort) → (result ≡ 0) ⊎ (result ≡ 1) → Proves file top clock prefix effort result (D.state desk.old) (D.state desk.new) (O.state out.old) (O.state out.new) }
+    ensures proves { (file top clock prefix : List ℕ) (kinds : Kinds) (effort : ℕ) → Names (texts words.now) (Prove_file file top clock prefix kinds effort) → (result ≡ 0) ⊎ (result ≡ 1) → Proves file top clock prefix kinds effort result (D.state desk.old) (D.state desk.new) (O.state out.old) (O.state out.new) }
 
     // It ends with 4 only where FILE's text is refused, or its design, and never with 5. No other command ends with 1.
-    ensures refuses { (file top clock prefix : List ℕ) (effort : ℕ) → Names (texts words.now) (Prove_file file top clock prefix effort) → result ≡ 4 → ProofRefused file top clock prefix effort result (D.state desk.old) (E.state err.old) (E.state err.new) }
-    ensures never_five { (file top clock prefix : List ℕ) (effort : ℕ) → Names (texts words.now) (Prove_file file top clock prefix effort) → result ≢ 5 }
+    ensures refuses { (file top clock prefix : List ℕ) (kinds : Kinds) (effort : ℕ) → Names (texts words.now) (Prove_file file top clock prefix kinds effort) → result ≡ 4 → ProofRefused file top clock prefix kinds effort result (D.state desk.old) (E.state err.old) (E.state err.new) }
+    ensures never_five { (file top clock prefix : List ℕ) (kinds : Kinds) (effort : ℕ) → Names (texts words.now) (Prove_file file top clock prefix kinds effort) → result ≢ 5 }
     ensures only_prove { (file cert : List ℕ) → Names (texts words.now) (Check_files file cert) → result ≢ 1 }
 
     // Where no count rose, its status fits what is answered of the text: 0 or 1 for its points, else that of the refusal; or that of want of memory.
-    ensures fits { (file top clock prefix text : List ℕ) (effort : ℕ) (answer : Result Front SourceError) → Names (texts words.now) (Prove_file file top clock prefix effort) → HasText (D.state desk.old).told file text → FrontAnswers text (setup_of top clock) answer → (Rose (D.state desk.old).faults (D.state desk.new).faults → ⊥) → (Rose (O.state out.old).faults (O.state out.new).faults → ⊥) → Fits answer result }
+    ensures fits { (file top clock prefix text : List ℕ) (kinds : Kinds) (effort : ℕ) (answer : Result Front SourceError) → Names (texts words.now) (Prove_file file top clock prefix kinds effort) → HasText (D.state desk.old).told file text → FrontAnswers text (setup_of top clock kinds) answer → (Rose (D.state desk.old).faults (D.state desk.new).faults → ⊥) → (Rose (O.state out.old).faults (O.state out.new).faults → ⊥) → Fits answer result }
 
     // No byte of the exclusion list is stored before the certificate is stored whole.
-    ensures list_last { (file top clock prefix : List ℕ) (effort : ℕ) → Names (texts words.now) (Prove_file file top clock prefix effort) → Tells (D.state desk.old).told (D.state desk.new).told (ListComesLast file top clock prefix effort) }
+    ensures list_last { (file top clock prefix : List ℕ) (kinds : Kinds) (effort : ℕ) → Names (texts words.now) (Prove_file file top clock prefix kinds effort) → Tells (D.state desk.old).told (D.state desk.new).told (ListComesLast file top clock prefix kinds effort) }
 
     // Status 3 comes only where the desk or the output failed in this call.
     ensures fault { result ≡ 3 → Rose (D.state desk.old).faults (D.state desk.new).faults ⊎ Rose (O.state out.old).faults (O.state out.new).faults }

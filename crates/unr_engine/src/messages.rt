@@ -2,11 +2,12 @@
 ghost use Rattle.std.specs.Prelude.{◌≡◌};
 ghost use Rattle.unr_io.specs.Sink.{Puts};
 ghost use Rattle.unr_engine.specs.Ends.{why_of};
-ghost use Rattle.unr_engine.specs.Messages.{memory_message, place_message, lex_message, text_message, parse_message, cert_message, source_message, line_name, line_number, step_message, hit_message, ladder_message, check_message, refusal_message, why_message};
+ghost use Rattle.unr_engine.specs.Messages.{memory_message, place_message, lex_message, text_message, parse_message, cert_message, point_message, source_message, line_name, line_number, step_message, hit_message, ladder_message, check_message, refusal_message, why_message};
 
 use crate::pieces::{Piece, put_all};
 use crate::stop::{Refusal, Stop, ending_text};
 use cert_text::CertError;
+use cover_points::PointError;
 use ladder_check::{LadderFault, Query, QueryFault};
 use lrat_check::LineFault;
 use source_check::{CheckError, SourceError};
@@ -105,6 +106,22 @@ fn say_cert_error<E: Sink>(err: &mut E, error: &CertError) -> Result<(), SinkErr
     }
 }
 
+fn say_point_error<E: Sink>(err: &mut E, error: &PointError) -> Result<(), SinkError>
+    ensures { Puts (point_message error.now) result (E.state err.old) (E.state err.new) }
+{
+    match error {
+        PointError::TooMany { number } => put_all(
+            err,
+            &[
+                Piece::Text(b"unr: source TooMany "),
+                Piece::Number(u64::from(*number)),
+                Piece::Text(b"\n"),
+            ],
+        ),
+        PointError::Memory => say_memory(err),
+    }
+}
+
 fn say_source_error<E: Sink>(err: &mut E, error: &SourceError) -> Result<(), SinkError>
     ensures { Puts (source_message error.now) result (E.state err.old) (E.state err.new) }
 {
@@ -119,6 +136,7 @@ fn say_source_error<E: Sink>(err: &mut E, error: &SourceError) -> Result<(), Sin
                 Piece::Text(b"\n"),
             ],
         ),
+        SourceError::Points(error) => say_point_error(err, error),
         SourceError::Memory => say_memory(err),
     }
 }

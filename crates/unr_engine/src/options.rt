@@ -2,7 +2,10 @@
 ghost use Rattle.std.specs.Prelude.{◌≡◌, ◌≢◌, ℕ, List, ◌∷◌, ◌^◌, ◌≤◌, MatchOption, IfSome};
 ghost use Rattle.std.specs.Option.{option_map};
 ghost use Rattle.unr_engine.specs.Words.{texts};
-ghost use Rattle.unr_engine.specs.Requests.{is_option, after_hyphen, cut_at_equals, key_named, read_value, read_cut, read_option, read_word, with_value, with_entry, step, givens_of, once, number_of, value_after, effort_of, no_prelude, statements_alone, read_flag, read_joined, first_scan, if_positive, read_is, given_is, givens_are, scan_is, nothing_given};
+ghost use Rattle.unr_engine.specs.Requests.{is_option, after_hyphen, cut_at_equals, key_named, read_value, read_cut, read_option, read_word, with_value, with_entry, step, givens_of, once, number_of, value_after, effort_of, no_prelude, kinds_given, read_flag, read_joined, first_scan, if_positive, read_is, given_is, givens_are, scan_is, nothing_given};
+
+use cert_text::kinds_of;
+use design_core::setup::Kinds;
 
 /// What a word, or an option's value, is given for.
 #[derive(Clone, Copy)]
@@ -344,13 +347,13 @@ pub fn no_prelude(given: Given<'_>) -> bool
     }
 }
 
-/// No points but those of statements are asked for.
-pub fn statements_alone(given: Given<'_>) -> bool
-    ensures { result ≡ statements_alone (given_is given.entry) }
+/// The kinds of points that are asked for, by their letters, and all that are built where none are given.
+pub fn kinds_given(given: Given<'_>) -> Option<Kinds>
+    ensures { result ≡ kinds_given (given_is given.entry) }
 {
     match given {
-        Given::Absent => true,
-        Given::Once { value } => value == "s",
-        Given::Twice => false,
+        Given::Absent => kinds_of(b"sb"),
+        Given::Once { value } => kinds_of(value.as_bytes()),
+        Given::Twice => None,
     }
 }

@@ -1,9 +1,10 @@
 // Why a run does not do what its words say, and the status of that.
 ghost use Rattle.std.specs.Prelude.{◌≡◌};
-ghost use Rattle.unr_engine.specs.Statuses.{lex_status, text_status, cert_status, source_status, check_status, refusal_status, why_status};
+ghost use Rattle.unr_engine.specs.Statuses.{lex_status, text_status, cert_status, point_status, source_status, check_status, refusal_status, why_status};
 ghost use Rattle.unr_engine.specs.Ends.{why_of, ending_text};
 
 use cert_text::CertError;
+use cover_points::PointError;
 use source_check::{CheckError, SourceError};
 use std::alloc::AllocError;
 use vlog_modules::{ParseError, TextError};
@@ -145,6 +146,15 @@ fn cert_status(error: &CertError) -> u8
     }
 }
 
+fn point_status(error: &PointError) -> u8
+    ensures { result ≡ point_status error.now }
+{
+    match error {
+        PointError::TooMany { .. } => 4,
+        PointError::Memory => 7,
+    }
+}
+
 fn source_status(error: &SourceError) -> u8
     ensures { result ≡ source_status error.now }
 {
@@ -152,6 +162,7 @@ fn source_status(error: &SourceError) -> u8
         SourceError::Text(error) => text_status(error),
         SourceError::NotBuilt { .. } => 4,
         SourceError::CostOver { .. } => 4,
+        SourceError::Points(error) => point_status(error),
         SourceError::Memory => 7,
     }
 }

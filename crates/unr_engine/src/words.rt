@@ -2,7 +2,8 @@
 ghost use Rattle.unr_engine.specs.Words.{texts};
 ghost use Rattle.unr_engine.specs.Requests.{ReadsAs, command_of, check_of, prove_of, prove_given, givens_are};
 
-use crate::options::{Givens, effort_of, givens_of, is_option, no_prelude, once, statements_alone};
+use crate::options::{Givens, effort_of, givens_of, is_option, kinds_given, no_prelude, once};
+use design_core::setup::Kinds;
 
 /// A command, in the words that name it.
 #[derive(Clone, Copy)]
@@ -16,6 +17,8 @@ pub enum Request<'a> {
         top: &'a str,
         clock: &'a str,
         prefix: &'a str,
+        /// The kinds of points that are proved.
+        kinds: Kinds,
         /// How many units each point may take.
         effort: u64,
     },
@@ -37,19 +40,21 @@ fn check_of(words: &[String]) -> Option<Request<'_>>
 fn prove_given<'a>(givens: Givens<'a>) -> Option<Request<'a>>
     ensures { ReadsAs (prove_given (givens_are givens.entry)) result }
 {
-    if !no_prelude(givens.cycles) || !statements_alone(givens.points) {
+    if !no_prelude(givens.cycles) {
         return None;
     }
     let file = once(givens.file)?;
     let top = once(givens.top)?;
     let clock = once(givens.clock)?;
     let prefix = once(givens.out)?;
+    let kinds = kinds_given(givens.points)?;
     let effort = effort_of(givens.effort)?;
     Some(Request::Prove {
         file,
         top,
         clock,
         prefix,
+        kinds,
         effort,
     })
 }

@@ -35,6 +35,27 @@ const NEVER: &[u8] = b"module t(input clk, input a, output reg q); \
 const NEVER_CERT: &str = "unr 1|top t|clock clk|cycles 0|points s|claims 2|\
     S t #1|excluded 0|hit 1 0|3 0 1 2 0|end|S t #2|reached 0|start 0|in 0|end|";
 
+// The same with the points of branch arms.
+const ARMS_CERT: &str = "unr 1|top t|clock clk|cycles 0|points sb|claims 4|\
+    S t #1|excluded 0|hit 1 0|3 0 1 2 0|end|S t #2|reached 0|start 0|in 0|end|\
+    B t #1 then|excluded 0|hit 1 0|3 0 1 2 0|end|B t #1 else|reached 0|start 0|in 0|end|";
+
+const ARMS_REPORT: &[u8] =
+    b"excluded S t #1\nreached 0 S t #2\nexcluded B t #1 then\nreached 0 B t #1 else\n\
+    points 4 excluded 2 reached 2 open 0\n";
+
+// Lines of it, from 1, others in their place, and the message.
+const ARMS_CHANGES: [(usize, usize, &str, &str); 8] = [
+    (5, 5, "points s", "cert point line 17"),
+    (5, 5, "points b", "cert point line 7"),
+    (5, 5, "points bs", "cert line 5"),
+    (5, 5, "points sbrt", "cert line 5"),
+    (17, 17, "B t #1 else", "cert point line 17"),
+    (17, 17, "B t #1 item 1", "cert point line 17"),
+    (22, 22, "B t #1 default", "cert point line 22"),
+    (23, 23, "reached 1", "claim B t #1 else NotHit"),
+];
+
 // Two registers that are always alike.
 const ALIKE: &[u8] =
     b"module u(input clk, input a, output reg q = 1'b0, output reg r = 1'b0, output reg e); \
@@ -270,6 +291,29 @@ fn runs(rt: HostRuntime) -> Result<(), TestFail> {
         },
         case_of("check", CERT, [0, 0, 1], 2, "unr", 0),
     ] {
+        try_case(&rt, rt.alloc(), &case)?;
+    }
+    Ok(())
+}
+
+#[test]
+fn arms(rt: HostRuntime) -> Result<(), TestFail> {
+    let good = Case {
+        text: NEVER,
+        out: ARMS_REPORT,
+        ..case_of("check t.v t.cert", ARMS_CERT, [0, 0, 0], 0, "", 2)
+    };
+    try_case(&rt, rt.alloc(), &good)?;
+    for (first, last, lines, message) in ARMS_CHANGES {
+        let cert = changed(rt.alloc(), ARMS_CERT, first, last, lines)?;
+        let err = format!(in rt.alloc(); "unr: {message}\n")?;
+        let case = Case {
+            out: b"",
+            cert: cert.as_str(),
+            err: err.as_bytes(),
+            status: 5,
+            ..good
+        };
         try_case(&rt, rt.alloc(), &case)?;
     }
     Ok(())

@@ -14,6 +14,16 @@ const NEVER_CERT: (&str, usize) = (
     123,
 );
 
+// The same with the points of branch arms.
+const ARMS_CERT: (&str, usize) = (
+    "unr 1|top t|clock clk|cycles 0|points sb|claims 4|S t #1|excluded 0|hit 1 0|3 0 ",
+    208,
+);
+
+const ARMS_REPORT: &str =
+    "excluded S t #1|reached 0 S t #2|excluded B t #1 then|reached 0 B t #1 else|\
+    points 4 excluded 2 reached 2 open 0|";
+
 // Two registers that are always alike.
 const ALIKE: &[u8] =
     b"module u(input clk, input a, output reg q = 1'b0, output reg r = 1'b0, output reg e); \
@@ -29,6 +39,12 @@ const ALIKE_CERT: (&str, usize) = (
 const ALIKE_REPORT: &str =
     "reached 0 S u #1|reached 0 S u #2|excluded S u #3|points 3 excluded 1 reached 2 open 0|";
 
+const ALIKE_ARMS_CERT: (&str, usize) = (
+    "unr 1|top u|clock clk|cycles 0|points b|claims 2|\
+    B u #1 then|excluded 1|l all -u.q u.r|step 1 1 0|5 0 ",
+    175,
+);
+
 // The same, where the one unit is the query that is refuted, and none is left for its proof.
 const OPEN_CERT: (&str, usize) = (
     "unr 1|top u|clock clk|cycles 0|points s|claims 3|\
@@ -40,7 +56,7 @@ const OPEN_CERT: (&str, usize) = (
 const OPEN_REPORT: &str = "reached 0 S u #1|reached 0 S u #2|open 0 S u #3 used 1 of 1|\
     points 3 excluded 0 reached 2 open 1|";
 
-const PROVE: &str = "prove u.v --top u --clock clk --out p";
+const PROVE: &str = "prove u.v --top u --clock clk --out p --points s";
 
 // A token that goes round eight places, and a second one that never comes.
 const RING: &[u8] =
@@ -176,11 +192,28 @@ fn proves(rt: HostRuntime) -> Result<(), TestFail> {
             ..PROVEN
         },
         Case {
-            words: "prove u.v --top t --clock clk --out p",
+            words: "prove u.v --top t --clock clk --out p --points s",
             text: NEVER,
             cert: Some(NEVER_CERT),
             list: Some("S t #1|"),
             out: "excluded S t #1|reached 0 S t #2|points 2 excluded 1 reached 1 open 0|",
+            ..PROVEN
+        },
+        // Without `--points`, all kinds that are built.
+        Case {
+            words: "prove u.v --top t --clock clk --out p",
+            text: NEVER,
+            cert: Some(ARMS_CERT),
+            list: Some("S t #1|B t #1 then|"),
+            out: ARMS_REPORT,
+            ..PROVEN
+        },
+        // An `else` that isn't written has its point.
+        Case {
+            words: "prove u.v --top u --clock clk --out p --points b",
+            cert: Some(ALIKE_ARMS_CERT),
+            list: Some("B u #1 then|"),
+            out: "excluded B u #1 then|reached 0 B u #1 else|points 2 excluded 1 reached 1 open 0|",
             ..PROVEN
         },
         Case {
@@ -243,7 +276,7 @@ fn finds_far_hits_invariants_and_widths(rt: HostRuntime) -> Result<(), TestFail>
         ("w", WIDE_SUM, WIDE_REPORT),
         ("s", BYTE_SUM, BYTE_REPORT),
     ] {
-        let words = format!(in alloc; "prove u.v --top {top} --clock clk --out p")?;
+        let words = format!(in alloc; "prove u.v --top {top} --clock clk --out p --points s")?;
         let mut files = Files::new(alloc);
         files.set(alloc, "u.v", text)?;
         let ran = run_over(alloc, words.as_str(), files, [NONE, NONE, NONE])?;

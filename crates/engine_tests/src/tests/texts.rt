@@ -1,4 +1,5 @@
 // What is proved of a text, below the command `prove`.
+use design_core::setup::Kinds;
 use std::test::Fail;
 use text_prover::prove_text;
 
@@ -14,10 +15,18 @@ const FRONT: &[u8] = b"unr 1\ntop u\nclock clk\ncycles 0\npoints s\nclaims 3\n\
 // So begins every one.
 const FIRST: &[u8] = b"unr 1\n";
 
+const STATEMENTS: Kinds = Kinds {
+    s: true,
+    b: false,
+    r: false,
+    t: false,
+    f: false,
+};
+
 #[test]
 fn proves(rt: HostRuntime) -> Result<(), Fail> {
     for (effort, cert, used) in [(1000, FRONT, [0, 0, 0]), (1, FIRST, [0, 0, 1])] {
-        let proven = prove_text(rt.alloc(), TEXT, b"u", b"clk", effort)?;
+        let proven = prove_text(rt.alloc(), TEXT, b"u", b"clk", STATEMENTS, effort)?;
         assert!(rt; proven.cert.starts_with(cert));
         assert_eq!(rt; proven.used.as_slice(), used.as_slice());
     }

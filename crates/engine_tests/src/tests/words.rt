@@ -3,7 +3,7 @@ use crate::tests::running::{NONE, run_over};
 use std::test::Fail;
 use unr_io::Files;
 
-const NO_COMMANDS: [&str; 34] = [
+const NO_COMMANDS: [&str; 35] = [
     "",
     "check",
     "check t.v",
@@ -27,8 +27,9 @@ const NO_COMMANDS: [&str; 34] = [
     "prove t.v --top t --clock clk --out p --cycles 1",
     "prove t.v --top t --clock clk --out p --cycles x",
     "prove t.v --top t --clock clk --out p --cycles 0 --cycles 0",
-    "prove t.v --top t --clock clk --out p --points b",
-    "prove t.v --top t --clock clk --out p --points sb",
+    "prove t.v --top t --clock clk --out p --points r",
+    "prove t.v --top t --clock clk --out p --points sbrt",
+    "prove t.v --top t --clock clk --out p --points bs",
     "prove t.v --top t --clock clk --out p --points=",
     "prove t.v --top t --clock clk --out p --reset r=1",
     "prove t.v --top t --clock clk --out p --fsm t.q",
@@ -41,12 +42,13 @@ const NO_COMMANDS: [&str; 34] = [
 ];
 
 // They name a command. The one file that they name is missing.
-const COMMANDS: [&str; 5] = [
+const COMMANDS: [&str; 6] = [
     "check t.v t.cert",
     "prove t.v --top t --clock clk --out p",
     "prove --out=p --clock=clk --points=s --effort=1000000000000000000 --cycles=00 --top=t t.v",
     "prove --cycles 0 --out p --effort 0000000000000000001 --top t t.v --clock clk --points s",
-    "prove --top=a=b --clock clk --out p t.v",
+    "prove --top=a=b --clock clk --out p --points b t.v",
+    "prove --points=sb --top t --clock clk --out p t.v",
 ];
 
 #[test]

@@ -10,6 +10,12 @@ const GOOD: &[u8] =
 const OPEN: &[u8] =
     b"unr 1\ntop u\nclock clk\ncycles 0\npoints s\nclaims 3\nS u #1\nopen 2 1\nl 1 u.q -u.r\nstep 1 2 2\n9 1 -2 0 3 4 0\n9 d 3 4 0\nhit 0 0\nend\nS u #2\nopen 0 0\nend\nS u #3\nreached 12\nstart -\nin 01\nend\n";
 
+// Of branch arms alone, and of both kinds.
+const ARMS: &[u8] =
+    b"unr 1\ntop u\nclock clk\ncycles 0\npoints b\nclaims 1\nB u #1 else\nopen 0 0\nend\n";
+
+const BOTH: &[u8] = b"unr 1\ntop u\nclock clk\ncycles 0\npoints sb\nclaims 0\n";
+
 // The first seven lines of a certificate with one claim.
 const FRONT: &[u8] = b"unr 1\ntop u\nclock clk\ncycles 0\npoints s\nclaims 1\nS u #3\n";
 
@@ -37,11 +43,13 @@ const BODIES: [(&[u8], u64); 19] = [
 ];
 
 // Texts that are no certificates, each with its first bad line.
-const BAD: [(&[u8], u64); 7] = [
+const BAD: [(&[u8], u64); 9] = [
     (b"", 1),
     (b"unr 1\ntop  t\n", 2),
     (b"unr 1\ntop t\nclock clk", 3),
     (b"unr 1\ntop t\nclock clk\nhold a 1\n", 4),
+    (b"unr 1\ntop t\nclock clk\ncycles 0\npoints bs\n", 5),
+    (b"unr 1\ntop t\nclock clk\ncycles 0\npoints sbrt\n", 5),
     (
         b"unr 1\ntop t\nclock clk\ncycles 0\npoints s\nclaims 01\n",
         6,
@@ -102,7 +110,7 @@ fn reads(rt: HostRuntime) -> Result<(), Fail> {
 
 #[test]
 fn writes(rt: HostRuntime) -> Result<(), Fail> {
-    for text in [GOOD, OPEN] {
+    for text in [GOOD, OPEN, ARMS, BOTH] {
         let cert = read_cert(rt.alloc(), text)?;
         assert_eq!(rt; write_cert(rt.alloc(), &cert)?.as_slice(), text);
     }

@@ -1,5 +1,6 @@
-use Rattle.std.proofs.Common.{◌≡◌, List, [], Result, arith, ap, subst, sym, length, ◌∙◌}
-use Rattle.std.specs.Prelude.{All}
+use Rattle.std.proofs.Common.{◌≡◌, ◌≤◌, List, [], Result, arith, ap, subst, sym, length, ◌∙◌}
+use Rattle.std.specs.Prelude.{All, Err}
+use Rattle.std.proofs.lemmas.Result.{err_from_is_err_and}
 use Rattle.std.proofs.lemmas.List.{length-map}
 use Rattle.bit_system.specs.Machine.{Machine, IsMachine}
 use Rattle.design_core.specs.declared.flat.Design.{Design}
@@ -9,22 +10,25 @@ use Rattle.design_core.specs.declared.setup.Setup.{Setup}
 use Rattle.cert_text.specs.declared.cert.CertClaim.{CertClaim}
 use Rattle.cert_text.specs.declared.claim.Claim.{Claim}
 use Rattle.source_check.specs.declared.error.CheckError.{CheckError}
-use Rattle.source_check.specs.declared.points.Point.{Point}
-use Rattle.source_check.specs.Points.{points_of, site_of, IsSiteBelow}
+use Rattle.cover_points.specs.declared.point.Point.{Point}
+use Rattle.cover_points.specs.Points.{points_of, site_of, IsSiteBelow}
+use Rattle.source_check.specs.Legal.{ListsPoints}
 use Rattle.source_check.specs.Judging.{system_of, JudgesClaims}
-use Rattle.source_check.proofs.Systems.{one_hit_each, few_points, points_of_sites}
+use Rattle.cover_points.proofs.Sites.{points_of_sites}
+use Rattle.source_check.proofs.Systems.{one_hit_each}
 use Rattle.source_check.proofs.OneByOne.{judged_by}
+use Rattle.source_check.proofs.Unlisted.{elaborated, judged_unlisted}
 use Rattle.source_check.proofs.Truth.{sites_of, true_where_judged}
 use Rattle.source_check.proofs.judging.judge.Goals as goal
 
-pub points-requires : goal.points-requires
-points-requires c = omega (arith, c.in_ok-legal.ensures.2, ap (λ (d : Design). length d.sites) c.design.ensures.design)
+pub listed-requires : goal.listed-requires
+listed-requires c = omega (arith, c.in_ok-legal.ensures.2, ap (λ (d : Design). length d.sites) c.design.ensures.design)
 
 pub judge_by-requires-clause-sites : goal.judge_by-requires-clause-sites
 judge_by-requires-clause-sites c =
     let d = c.in_ok-legal.legal.design in
     let setup = c.args.cert.now.setup in
-    let made = c.as_slice-listed.ensures ∙ c.in_ok-points.ensures ∙ ap (λ x. points_of x setup) c.design.ensures.design in
+    let made = c.as_slice-listed.ensures ∙ c.in_ok-points.ensures.0 ∙ ap (λ x. points_of x setup) c.design.ensures.design in
     subst (All (λ (p : Point). IsSiteBelow (length d.sites) p.test)) (sym made) (points_of_sites d setup)
 
 pub judge_by-requires-clause-points : goal.judge_by-requires-clause-points
@@ -37,9 +41,8 @@ pub judge_by-requires-clause-few : goal.judge_by-requires-clause-few
 judge_by-requires-clause-few c =
     let d = c.in_ok-legal.legal.design in
     let setup = c.args.cert.now.setup in
-    let made = ap length (c.as_slice-listed.ensures ∙ c.in_ok-points.ensures ∙ ap (λ x. points_of x setup) c.design.ensures.design) in
-    let few = few_points d setup in
-    omega (arith, few, made, c.in_ok-legal.ensures.2)
+    let made = ap length (c.as_slice-listed.ensures ∙ c.in_ok-points.ensures.0 ∙ ap (λ x. points_of x setup) c.design.ensures.design) in
+    omega (arith, made, ap (λ x. length (points_of x setup)) c.design.ensures.design, c.in_ok-points.ensures.1)
 
 -- the answer for the claims, in terms of the text's design
 in_text :
@@ -61,9 +64,10 @@ returns-clause-judged c =
     let setup = c.args.cert.now.setup in
     let points = c.as_slice-listed.result.now in
     let system = c.in_ok-system.system in
-    let made = c.as_slice-listed.ensures ∙ c.in_ok-points.ensures ∙ ap (λ x. points_of x setup) c.design.ensures.design in
+    let made = c.as_slice-listed.ensures ∙ c.in_ok-points.ensures.0 ∙ ap (λ x. points_of x setup) c.design.ensures.design in
     let same = its_system d setup points system c.in_ok-system.ensures.exact made in
-    judged_by c.args.tree.now c.args.cert.now d c.judge_by.result c.in_ok-legal.ensures.0
+    let few = subst (λ (x : Design). length (points_of x setup) ≤ 200000) c.design.ensures.design c.in_ok-points.ensures.1 in
+    judged_by c.args.tree.now c.args.cert.now d c.judge_by.result (elaborated c.args.tree.now setup d c.in_ok-legal.ensures.0 few)
     (in_text d setup system points c.as_slice-claims.result.now c.args.cert.now.claims c.judge_by.result same made c.as_slice-claims.ensures c.judge_by.ensures)
 
 pub returns-clause-true_claims : goal.returns-clause-true_claims
@@ -72,9 +76,19 @@ returns-clause-true_claims c =
     let setup = c.args.cert.now.setup in
     let points = c.as_slice-listed.result.now in
     let system = c.in_ok-system.system in
-    let made = c.as_slice-listed.ensures ∙ c.in_ok-points.ensures ∙ ap (λ x. points_of x setup) c.design.ensures.design in
+    let made = c.as_slice-listed.ensures ∙ c.in_ok-points.ensures.0 ∙ ap (λ x. points_of x setup) c.design.ensures.design in
     let same = its_system d setup points system c.in_ok-system.ensures.exact made in
+    let few = subst (λ (x : Design). length (points_of x setup) ≤ 200000) c.design.ensures.design c.in_ok-points.ensures.1 in
     true_where_judged c.args.tree.now c.args.cert.now d (system_of d setup) (subst IsMachine same c.in_ok-system.ensures.valid)
     (subst (λ (m : Machine). Bridge d (sites_of (points_of d setup)) m) same (subst (λ (ps : List Point). Bridge d (sites_of ps) system) made c.in_ok-system.ensures.bridge))
-    c.requires c.in_ok-legal.ensures.0 c.judge_by.result
+    c.requires (elaborated c.args.tree.now setup d c.in_ok-legal.ensures.0 few) c.judge_by.result
     (in_text d setup system points c.as_slice-claims.result.now c.args.cert.now.claims c.judge_by.result same made c.as_slice-claims.ensures c.judge_by.ensures)
+
+pub returns-in_err-points-clause-judged : goal.returns-in_err-points-clause-judged
+returns-in_err-points-clause-judged c =
+    let setup = c.args.cert.now.setup in
+    let d = c.in_ok-legal.legal.design in
+    let e = c.in_err-points.field-0.0 in
+    let p = err_from_is_err_and c.from_residual-in_err-points.result c.from_residual-in_err-points.ensures.1 in
+    let k = subst (λ (x : Design). ListsPoints x setup (Err e)) c.design.ensures.design c.in_err-points.ensures in
+    rw (p.1, p.2) (judged_unlisted c.args.tree.now c.args.cert.now d c.in_ok-legal.ensures.0 e k)

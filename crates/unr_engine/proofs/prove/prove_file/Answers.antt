@@ -13,41 +13,41 @@ use Rattle.unr_engine.proofs.prove.prove_file.Goals as goal
 
 pub returns-in_err-text : goal.returns-in_err-text
 returns-in_err-text g c =
-    let command = Prove_file c.args.file.now c.args.top.now c.args.clock.now c.args.prefix.now c.args.effort in
+    let command = Prove_file c.args.file.now c.args.top.now c.args.clock.now c.args.prefix.now c.args.kinds c.args.effort in
     let p = err_from_is_err_and c.from_residual.result c.from_residual.ensures.1 in
     handed_on command c.from_residual.result p.0 (why_of c.in_err-text.field-0.0) _ _ _ _ p.1 (ap why_of p.2)
     (fetch_stopped command [] c.args.file.now 4194305 (why_of c.in_err-text.field-0.0) (g.D.Desk.state c.args.desk.now) (g.D.Desk.state c.args.desk.now) (g.D.Desk.state c.fetch.new.desk) (g.O.Sink.state c.args.out.now) (begun command (g.D.Desk.state c.args.desk.now)) refl c.in_err-text.ensures.told c.in_err-text.ensures.cause)
 
 pub returns-in_err-proven : goal.returns-in_err-proven
 returns-in_err-proven g c =
-    let command = Prove_file c.args.file.now c.args.top.now c.args.clock.now c.args.prefix.now c.args.effort in
+    let command = Prove_file c.args.file.now c.args.top.now c.args.clock.now c.args.prefix.now c.args.kinds c.args.effort in
     let p = err_from_is_err_and c.from_residual-in_err-proven.result c.from_residual-in_err-proven.ensures.1 in
-    let so = text_loaded c.args.file.now c.args.top.now c.args.clock.now c.args.prefix.now c.args.effort c.in_ok-text.text (g.D.Desk.state c.args.desk.now) (g.D.Desk.state c.fetch.new.desk) c.in_ok-text.ensures in
+    let so = text_loaded c.args.file.now c.args.top.now c.args.clock.now c.args.prefix.now c.args.kinds c.args.effort c.in_ok-text.text (g.D.Desk.state c.args.desk.now) (g.D.Desk.state c.fetch.new.desk) c.in_ok-text.ensures in
     handed_on command c.from_residual-in_err-proven.result p.0 (Not_taken (refusal.Source c.in_err-proven.field-0.0)) _ _ _ _ p.1 (ap why_of p.2)
-    (refused command (c.in_ok-text.text.items ∷ []) (refusal.Source c.in_err-proven.field-0.0) (g.D.Desk.state c.args.desk.now) (g.D.Desk.state c.fetch.new.desk) (g.O.Sink.state c.args.out.now) so (proof_refused c.in_ok-text.text.items c.deref.result.now c.args.top.now c.as_bytes.result.now c.args.clock.now c.as_bytes-2.result.now c.args.effort c.in_err-proven.field-0.0 c.deref.ensures.value c.as_bytes.ensures.value c.as_bytes-2.ensures.value c.in_err-proven.ensures))
+    (refused command (c.in_ok-text.text.items ∷ []) (refusal.Source c.in_err-proven.field-0.0) (g.D.Desk.state c.args.desk.now) (g.D.Desk.state c.fetch.new.desk) (g.O.Sink.state c.args.out.now) so (proof_refused c.in_ok-text.text.items c.deref.result.now c.args.top.now c.as_bytes.result.now c.args.clock.now c.as_bytes-2.result.now c.args.kinds c.args.effort c.in_err-proven.field-0.0 c.deref.ensures.value c.as_bytes.ensures.value c.as_bytes-2.ensures.value c.in_err-proven.ensures))
 
 pub returns-in_err-list : goal.returns-in_err-list
 returns-in_err-list g c =
-    let command = Prove_file c.args.file.now c.args.top.now c.args.clock.now c.args.prefix.now c.args.effort in
+    let command = Prove_file c.args.file.now c.args.top.now c.args.clock.now c.args.prefix.now c.args.kinds c.args.effort in
     let p = err_from_is_err_and c.from_residual-in_err-list.result c.from_residual-in_err-list.ensures.1 in
-    let so = text_loaded c.args.file.now c.args.top.now c.args.clock.now c.args.prefix.now c.args.effort c.in_ok-text.text (g.D.Desk.state c.args.desk.now) (g.D.Desk.state c.fetch.new.desk) c.in_ok-text.ensures in
+    let so = text_loaded c.args.file.now c.args.top.now c.args.clock.now c.args.prefix.now c.args.kinds c.args.effort c.in_ok-text.text (g.D.Desk.state c.args.desk.now) (g.D.Desk.state c.fetch.new.desk) c.in_ok-text.ensures in
     handed_on command c.from_residual-in_err-list.result p.0 Out_of_memory _ _ _ _ p.1 (ap why_of p.2)
     (no_memory command (c.in_ok-text.text.items ∷ []) (g.D.Desk.state c.args.desk.now) (g.D.Desk.state c.fetch.new.desk) (g.O.Sink.state c.args.out.now) so)
 
 pub returns-in_err-report : goal.returns-in_err-report
 returns-in_err-report g c =
-    let command = Prove_file c.args.file.now c.args.top.now c.args.clock.now c.args.prefix.now c.args.effort in
+    let command = Prove_file c.args.file.now c.args.top.now c.args.clock.now c.args.prefix.now c.args.kinds c.args.effort in
     let p = err_from_is_err_and c.from_residual-in_err-report.result c.from_residual-in_err-report.ensures.1 in
-    let so = text_loaded c.args.file.now c.args.top.now c.args.clock.now c.args.prefix.now c.args.effort c.in_ok-text.text (g.D.Desk.state c.args.desk.now) (g.D.Desk.state c.fetch.new.desk) c.in_ok-text.ensures in
+    let so = text_loaded c.args.file.now c.args.top.now c.args.clock.now c.args.prefix.now c.args.kinds c.args.effort c.in_ok-text.text (g.D.Desk.state c.args.desk.now) (g.D.Desk.state c.fetch.new.desk) c.in_ok-text.ensures in
     handed_on command c.from_residual-in_err-report.result p.0 Out_of_memory _ _ _ _ p.1 (ap why_of p.2)
     (no_memory command (c.in_ok-text.text.items ∷ []) (g.D.Desk.state c.args.desk.now) (g.D.Desk.state c.fetch.new.desk) (g.O.Sink.state c.args.out.now) so)
 
 pub returns-in_err-keep : goal.returns-in_err-keep
 returns-in_err-keep g c =
-    let command = Prove_file c.args.file.now c.args.top.now c.args.clock.now c.args.prefix.now c.args.effort in
+    let command = Prove_file c.args.file.now c.args.top.now c.args.clock.now c.args.prefix.now c.args.kinds c.args.effort in
     let p = err_from_is_err_and c.from_residual-in_err-keep.result c.from_residual-in_err-keep.ensures.1 in
-    let so = text_loaded c.args.file.now c.args.top.now c.args.clock.now c.args.prefix.now c.args.effort c.in_ok-text.text (g.D.Desk.state c.args.desk.now) (g.D.Desk.state c.fetch.new.desk) c.in_ok-text.ensures in
-    let answer = proof_answered c.args.file.now c.args.top.now c.args.clock.now c.args.prefix.now c.in_ok-text.text.items c.deref.result.now c.as_bytes.result.now c.as_bytes-2.result.now c.args.effort c.in_ok-proven.proven c.deref.ensures.value c.as_bytes.ensures.value c.as_bytes-2.ensures.value c.in_ok-proven.ensures in
+    let so = text_loaded c.args.file.now c.args.top.now c.args.clock.now c.args.prefix.now c.args.kinds c.args.effort c.in_ok-text.text (g.D.Desk.state c.args.desk.now) (g.D.Desk.state c.fetch.new.desk) c.in_ok-text.ensures in
+    let answer = proof_answered c.args.file.now c.args.top.now c.args.clock.now c.args.prefix.now c.in_ok-text.text.items c.deref.result.now c.as_bytes.result.now c.as_bytes-2.result.now c.args.kinds c.args.effort c.in_ok-proven.proven c.deref.ensures.value c.as_bytes.ensures.value c.as_bytes-2.ensures.value c.in_ok-proven.ensures in
     let cert = cert_name c.args.prefix.now in
     let list = list_name c.args.prefix.now in
     let x = c.in_ok-proven.proven.cert.items in
@@ -58,10 +58,10 @@ returns-in_err-keep g c =
 
 pub returns-in_err-keep-2 : goal.returns-in_err-keep-2
 returns-in_err-keep-2 g c =
-    let command = Prove_file c.args.file.now c.args.top.now c.args.clock.now c.args.prefix.now c.args.effort in
+    let command = Prove_file c.args.file.now c.args.top.now c.args.clock.now c.args.prefix.now c.args.kinds c.args.effort in
     let p = err_from_is_err_and c.from_residual-in_err-keep-2.result c.from_residual-in_err-keep-2.ensures.1 in
-    let so = text_loaded c.args.file.now c.args.top.now c.args.clock.now c.args.prefix.now c.args.effort c.in_ok-text.text (g.D.Desk.state c.args.desk.now) (g.D.Desk.state c.fetch.new.desk) c.in_ok-text.ensures in
-    let answer = proof_answered c.args.file.now c.args.top.now c.args.clock.now c.args.prefix.now c.in_ok-text.text.items c.deref.result.now c.as_bytes.result.now c.as_bytes-2.result.now c.args.effort c.in_ok-proven.proven c.deref.ensures.value c.as_bytes.ensures.value c.as_bytes-2.ensures.value c.in_ok-proven.ensures in
+    let so = text_loaded c.args.file.now c.args.top.now c.args.clock.now c.args.prefix.now c.args.kinds c.args.effort c.in_ok-text.text (g.D.Desk.state c.args.desk.now) (g.D.Desk.state c.fetch.new.desk) c.in_ok-text.ensures in
+    let answer = proof_answered c.args.file.now c.args.top.now c.args.clock.now c.args.prefix.now c.in_ok-text.text.items c.deref.result.now c.as_bytes.result.now c.as_bytes-2.result.now c.args.kinds c.args.effort c.in_ok-proven.proven c.deref.ensures.value c.as_bytes.ensures.value c.as_bytes-2.ensures.value c.in_ok-proven.ensures in
     let cert = cert_name c.args.prefix.now in
     let list = list_name c.args.prefix.now in
     let x = c.in_ok-proven.proven.cert.items in
@@ -74,10 +74,10 @@ returns-in_err-keep-2 g c =
 
 pub returns-in_err-deliver : goal.returns-in_err-deliver
 returns-in_err-deliver g c =
-    let command = Prove_file c.args.file.now c.args.top.now c.args.clock.now c.args.prefix.now c.args.effort in
+    let command = Prove_file c.args.file.now c.args.top.now c.args.clock.now c.args.prefix.now c.args.kinds c.args.effort in
     let p = err_from_is_err_and c.from_residual-in_err-deliver.result c.from_residual-in_err-deliver.ensures.1 in
-    let so = text_loaded c.args.file.now c.args.top.now c.args.clock.now c.args.prefix.now c.args.effort c.in_ok-text.text (g.D.Desk.state c.args.desk.now) (g.D.Desk.state c.fetch.new.desk) c.in_ok-text.ensures in
-    let answer = proof_answered c.args.file.now c.args.top.now c.args.clock.now c.args.prefix.now c.in_ok-text.text.items c.deref.result.now c.as_bytes.result.now c.as_bytes-2.result.now c.args.effort c.in_ok-proven.proven c.deref.ensures.value c.as_bytes.ensures.value c.as_bytes-2.ensures.value c.in_ok-proven.ensures in
+    let so = text_loaded c.args.file.now c.args.top.now c.args.clock.now c.args.prefix.now c.args.kinds c.args.effort c.in_ok-text.text (g.D.Desk.state c.args.desk.now) (g.D.Desk.state c.fetch.new.desk) c.in_ok-text.ensures in
+    let answer = proof_answered c.args.file.now c.args.top.now c.args.clock.now c.args.prefix.now c.in_ok-text.text.items c.deref.result.now c.as_bytes.result.now c.as_bytes-2.result.now c.args.kinds c.args.effort c.in_ok-proven.proven c.deref.ensures.value c.as_bytes.ensures.value c.as_bytes-2.ensures.value c.in_ok-proven.ensures in
     let cert = cert_name c.args.prefix.now in
     let list = list_name c.args.prefix.now in
     let x = c.in_ok-proven.proven.cert.items in
@@ -92,9 +92,9 @@ returns-in_err-deliver g c =
 
 pub returns : goal.returns
 returns g c =
-    let command = Prove_file c.args.file.now c.args.top.now c.args.clock.now c.args.prefix.now c.args.effort in
-    let so = text_loaded c.args.file.now c.args.top.now c.args.clock.now c.args.prefix.now c.args.effort c.in_ok-text.text (g.D.Desk.state c.args.desk.now) (g.D.Desk.state c.fetch.new.desk) c.in_ok-text.ensures in
-    let answer = proof_answered c.args.file.now c.args.top.now c.args.clock.now c.args.prefix.now c.in_ok-text.text.items c.deref.result.now c.as_bytes.result.now c.as_bytes-2.result.now c.args.effort c.in_ok-proven.proven c.deref.ensures.value c.as_bytes.ensures.value c.as_bytes-2.ensures.value c.in_ok-proven.ensures in
+    let command = Prove_file c.args.file.now c.args.top.now c.args.clock.now c.args.prefix.now c.args.kinds c.args.effort in
+    let so = text_loaded c.args.file.now c.args.top.now c.args.clock.now c.args.prefix.now c.args.kinds c.args.effort c.in_ok-text.text (g.D.Desk.state c.args.desk.now) (g.D.Desk.state c.fetch.new.desk) c.in_ok-text.ensures in
+    let answer = proof_answered c.args.file.now c.args.top.now c.args.clock.now c.args.prefix.now c.in_ok-text.text.items c.deref.result.now c.as_bytes.result.now c.as_bytes-2.result.now c.args.kinds c.args.effort c.in_ok-proven.proven c.deref.ensures.value c.as_bytes.ensures.value c.as_bytes-2.ensures.value c.in_ok-proven.ensures in
     let cert = cert_name c.args.prefix.now in
     let list = list_name c.args.prefix.now in
     let x = c.in_ok-proven.proven.cert.items in
