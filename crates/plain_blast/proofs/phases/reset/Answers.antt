@@ -13,8 +13,8 @@ saved_in-requires c = arm_below _ _ _ _ _ _ _ _ c.in-Branch.is c.requires.within
 pub run-requires-clause-within : goal.run-requires-clause-within
 run-requires-clause-within c = rw c.get-2.ensures (branch_within _ _ _ _ _ _ _ c.in-Branch.is c.requires.within).2
 
-pub choose-requires-clause-saved_exist : goal.choose-requires-clause-saved_exist
-choose-requires-clause-saved_exist c =
+pub choose-requires-clause-given_exist : goal.choose-requires-clause-given_exist
+choose-requires-clause-given_exist c =
     picked_all c.run.new.aig c.run.new.targets c.in_ok-before.before.bits.items _ c.in_ok-run.ensures.exist.targets_exist (rw c.run.ensures.long c.in_ok-before.ensures.within) c.in_ok-constants.ensures.literals
 
 pub choose-requires-clause-targets_exist : goal.choose-requires-clause-targets_exist
