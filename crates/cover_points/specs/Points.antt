@@ -5,7 +5,7 @@ use Rattle.design_core.specs.declared.flat.Site.{Site}
 use Rattle.design_core.specs.declared.flat.SiteKind.{SiteKind}
 use Rattle.design_core.specs.declared.flat.SiteKind.TheVariants.{Assignment, Arm}
 use Rattle.design_core.specs.declared.flat.ArmKind.{ArmKind}
-use Rattle.design_core.specs.declared.flat.ArmKind.TheVariants.{Then, Else}
+use Rattle.design_core.specs.declared.flat.ArmKind.TheVariants.{Then, Else, Item, Default}
 use Rattle.design_core.specs.declared.setup.Setup.{Setup}
 use Rattle.design_core.specs.Verdicts as verdicts
 use Rattle.design_core.specs.Verdicts.{Passes}
@@ -24,6 +24,8 @@ letter_of (Arm arm) = codes "B"
 abbrev pub arm_text : ArmKind → List ℕ
 arm_text Then = codes "then"
 arm_text Else = codes "else"
+arm_text (Item number) = codes "item " ++ decimal number
+arm_text Default = codes "default"
 
 abbrev pub ending_of : SiteKind → List ℕ
 ending_of Assignment = []

@@ -15,7 +15,7 @@ use std::alloc::Global;
 /// The most points that a design may have.
 const MOST: u32 = 200_000;
 
-/// A kind of cover points: of statements, or of the arms of branches.
+/// A kind of cover points: of statements, or of the arms of branches and choices.
 #[derive(Clone, Copy)]
 pub enum PointKind {
     Statement,
@@ -76,7 +76,7 @@ fn add_points(
     Ok(())
 }
 
-/// The cover points of a design: those of statements and then those of branch arms, where the setup names these
+/// The cover points of a design: those of statements and then those of arms, where the setup names these
 /// kinds, each in the order of the sites. Other kinds have no points so far.
 pub fn points(alloc: Global, design: &Design, setup: &Setup) -> Result<Items<Point>, PointError>
     requires { length design.now.sites ≤ 2 ^ 32 }

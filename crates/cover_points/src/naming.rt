@@ -18,13 +18,20 @@ fn letter(kind: &SiteKind) -> &'static [u8]
     }
 }
 
-/// What an arm is called.
-fn arm_text(arm: &ArmKind) -> &'static [u8]
-    ensures { result.now ≡ arm_text arm.now }
+/// Writes what an arm is called.
+fn put_arm(text: &mut Vec<u8>, arm: &ArmKind) -> Result<(), AllocError>
+    ensures { OnOk result (text.new.items ≡ text.old.items ++ arm_text arm.now) }
 {
     match arm {
-        ArmKind::Then => b"then",
-        ArmKind::Else => b"else",
+        ArmKind::Then => text.extend_from_slice(b"then"),
+        ArmKind::Else => text.extend_from_slice(b"else"),
+        ArmKind::Item { number } => {
+            let mut buffer = Buffer::new();
+            text.extend_from_slice(b"item ")?;
+            text.extend_from_slice(buffer.format(*number).as_bytes())?;
+            Ok(())
+        }
+        ArmKind::Default => text.extend_from_slice(b"default"),
     }
 }
 
@@ -36,13 +43,13 @@ fn put_ending(text: &mut Vec<u8>, kind: &SiteKind) -> Result<(), AllocError>
         SiteKind::Assignment => Ok(()),
         SiteKind::Arm { arm } => {
             text.push(b' ')?;
-            text.extend_from_slice(arm_text(arm))?;
+            put_arm(text, arm)?;
             Ok(())
         }
     }
 }
 
-/// The name of a site's point, as `S t #1` or `B t #1 then`.
+/// The name of a site's point, as `S t #1`, `B t #1 then` or `B t #2 item 1`.
 pub fn name(alloc: Global, site: &Site) -> Result<Name, AllocError>
     ensures { IfOk result (λ name. name ≡ name_of site.now) }
 {

@@ -10,7 +10,7 @@ use word_core::Name;
 /// A cover point: what may happen in a run.
 #[derive(Debug, Drop)]
 pub struct Point {
-    /// Its name, as `S t #1` or `B t #1 then`.
+    /// Its name, as `S t #1`, `B t #1 then` or `B t #2 item 1`.
     pub name: Name,
     pub test: Test,
 }

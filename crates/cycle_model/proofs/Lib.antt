@@ -1,4 +1,6 @@
 pub mod Blocks
+pub mod Choosing
+pub mod Choices
 pub mod Steps
 pub mod Sites
 pub mod Whole

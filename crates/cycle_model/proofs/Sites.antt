@@ -12,7 +12,7 @@ use Rattle.design_core.specs.Exec.{exec, exec_each}
 use Rattle.design_core.specs.Settled.{is_clocked, Hit}
 use Rattle.design_core.specs.Legality.{is_given, bodies, IsLegal}
 use Rattle.design_core.proofs.Truth.{either_way}
-use Rattle.design_core.proofs.Settling.{settles, of_bodies, to_bodies, started, done}
+use Rattle.design_core.proofs.Settling.{settles, of_bodies, to_bodies, bodies_within, started, done}
 use Rattle.cycle_model.specs.declared.phases.Trigger.TheVariants.{ClockEdge}
 use Rattle.cycle_model.specs.Flags.{flagged}
 use Rattle.cycle_model.specs.Clocking.{runs, marks_where, IsMarked}
@@ -95,7 +95,7 @@ module _ (d : Design) (order : List ℕ) (legal : IsLegal d order) (base i m : L
   passed = (exec_each (bodies d order) (started d order legal base i)).marks
 
   passed_is : passed ≡ flat_map (λ s. (exec s v).marks) (bodies d order)
-  passed_is = (settles (is_given d) (bodies d order) (started d order legal base i) legal.placed).marks
+  passed_is = (settles (is_given d) (bodies d order) (started d order legal base i) (length d.bits) (length d.sites) (bodies_within d order legal) legal.placed).marks
 
   from_passed : (site : ℕ) → Contains passed site → Hit d v site
   from_passed site c =

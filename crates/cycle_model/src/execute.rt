@@ -8,6 +8,7 @@ ghost use Rattle.design_core.specs.Exec.{listed, assign, exec};
 ghost use Rattle.design_core.specs.Bounds.{IsWithin};
 ghost use Rattle.cycle_model.specs.Flags.{flagged};
 
+use crate::choose::items_before;
 use bit_exprs::forms::{Expr, Target};
 use design_core::flat::Stmt;
 use expr_value::{value, write};
@@ -56,8 +57,9 @@ fn mark(site: Option<u32>, marks: &mut [bool])
 }
 
 /// Executes a body. Nonblocking assignments go to `next`, sites passed to `marks`, and `scratch` is overwritten.
-/// Takes no memory, and time linear in what is executed of the body, counted with the bits that it names; a select or a
-/// write with an index counts each bit of its vector for each bit selected.
+/// Takes no memory, and time linear in what is executed of the body, counted with the bits that it names, and of a choice
+/// with the labels up to the first that is equal; a select or a write with an index counts each bit of its vector for each
+/// bit selected.
 pub fn execute(
     body: &Stmt,
     values: &mut [bool],
@@ -99,6 +101,22 @@ pub fn execute(
         Stmt::Block(all) => {
             for s in all.as_slice() {
                 execute(s, values, next, scratch, marks);
+            }
+        }
+        Stmt::Choice {
+            site,
+            selector,
+            items,
+            other,
+            has_default: _,
+        } => {
+            let items = items.as_slice();
+            let before = items_before(selector, items, values);
+            marks[*site as usize + before] = true;
+            if before < items.len() {
+                execute(&items[before].body, values, next, scratch, marks);
+            } else {
+                execute(other.get(), values, next, scratch, marks);
             }
         }
     }

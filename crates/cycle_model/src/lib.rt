@@ -1,6 +1,7 @@
 //! Running a legal design cycle by cycle.
 #![tactic(auto)]
 
+pub mod choose;
 pub mod execute;
 mod phases;
 pub mod replay;

@@ -22,7 +22,7 @@ use Rattle.design_core.proofs.ClockedDesigns.{IsPlain, clocked_designs_are_legal
 use Rattle.cycle_tests.specs.Counter.{raise, count, body_of, process_of, IsCounter}
 
 -- the test holds at each number of the list
-abbrev each : (ℕ → Bool) → List ℕ → Bool
+abbrev pub each : (ℕ → Bool) → List ℕ → Bool
 each test [] = true
 each test (x ∷ xs) = test x && each test xs
 
@@ -34,14 +34,14 @@ and_right : (a b : Bool) → a && b ≡ true → b ≡ true
 and_right true b h = h
 and_right false b h = cc
 
-at_each : (test : ℕ → Bool) (xs : List ℕ) → each test xs ≡ true → (b : ℕ) → among xs b ≡ true → test b ≡ true
+pub at_each : (test : ℕ → Bool) (xs : List ℕ) → each test xs ≡ true → (b : ℕ) → among xs b ≡ true → test b ≡ true
 at_each test [] h b r = cc
 at_each test (x ∷ xs) h b r = elim (or_cases (nat_eq x b) (among xs b) r) [
   | inl here ↦ subst (λ y. test y ≡ true) (eqb-true x b here) (and_left (test x) (each test xs) h)
   | inr later ↦ at_each test xs (and_right (test x) (each test xs) h) b later
 ]
 
-all_each : (n : ℕ) (xs : List ℕ) → each (λ x. nat_lt x n) xs ≡ true → All (λ x. x < n) xs
+pub all_each : (n : ℕ) (xs : List ℕ) → each (λ x. nat_lt x n) xs ≡ true → All (λ x. x < n) xs
 all_each n [] h = All-nil (λ x. x < n)
 all_each n (x ∷ xs) h = All-cons (λ y. y < n) x xs (ltb-true x n (and_left (nat_lt x n) (each (λ y. nat_lt y n) xs) h)) (all_each n xs (and_right (nat_lt x n) (each (λ y. nat_lt y n) xs) h))
 
@@ -54,7 +54,7 @@ twice true = refl
 twice false = refl
 
 -- numbers from one on
-abbrev run : ℕ → ℕ → List ℕ
+abbrev pub run : ℕ → ℕ → List ℕ
 run from zero = []
 run from (suc n) = from ∷ run (suc from) n
 
@@ -64,7 +64,7 @@ run_at from zero (suc j) b h = cc
 run_at from (suc n) zero b h = let same : from ≡ b = cc in omega (arith, same)
 run_at from (suc n) (suc j) b h = let later : b ≡ suc from + j = run_at (suc from) n j b h in omega (arith, later)
 
-distinct : (from n : ℕ) → Distinct (run from n)
+pub distinct : (from n : ℕ) → Distinct (run from n)
 distinct from n j k b p q = omega (arith, run_at from n j b p, run_at from n k b q)
 
 -- one of the bits that the design is given

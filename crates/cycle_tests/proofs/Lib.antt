@@ -1,1 +1,2 @@
 pub mod CounterLegal
+pub mod DecoderLegal

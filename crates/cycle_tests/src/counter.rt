@@ -4,15 +4,16 @@
 //
 // Its bits in this order: d 0, i 1 and 2, s 3 to 6, v 7 to 9, clk 10.
 
-ghost use Rattle.std.specs.Prelude.{◌≡◌, [], ◌∷◌, length, IfOk};
+ghost use Rattle.std.specs.Prelude.{◌≡◌, [], ◌∷◌, IfOk};
 ghost use Rattle.cycle_tests.specs.Counter.{put, raise, next, count, body_of, process_of, IsCounter};
 
+use crate::parts::{bits, sites};
 use bit_exprs::forms::{BinaryOp, Expr, Part, Target, Window};
-use design_core::flat::{BitInfo, Design, ProcKind, Process, Site, SiteKind, Stmt};
+use design_core::flat::{Design, ProcKind, Process, Stmt};
 use design_core::legal::Legal;
 use sqlite_items::{Boxed, Items};
 use std::alloc::{AllocError, Global};
-use word_core::{Name, Place, Word};
+use word_core::{Place, Word};
 
 fn put(alloc: Global, site: u32, part: Part, value: Expr) -> Result<Stmt, AllocError>
     ensures { IfOk result (λ s. s ≡ put site part value) }
@@ -108,40 +109,14 @@ fn processes(alloc: Global, body: Stmt) -> Result<Items<Process>, AllocError>
     Ok(processes)
 }
 
-fn bits(alloc: Global) -> Result<Items<BitInfo>, AllocError>
-    ensures { IfOk result (λ bits. length bits ≡ 11) }
-{
-    let mut bits = Items::new(alloc);
-    for _ in 0..11u8 {
-        let name = Name::make(alloc, b"b")?;
-        bits.push(BitInfo { name, start: None })?;
-    }
-    Ok(bits)
-}
-
-fn sites(alloc: Global) -> Result<Items<Site>, AllocError>
-    ensures { IfOk result (λ sites. length sites ≡ 4) }
-{
-    let mut sites = Items::new(alloc);
-    for _ in 0..4u8 {
-        let scope = Name::make(alloc, b"t")?;
-        sites.push(Site {
-            scope,
-            kind: SiteKind::Assignment,
-            ordinal: 1,
-        })?;
-    }
-    Ok(sites)
-}
-
 fn design(alloc: Global) -> Result<Design, AllocError>
     ensures { IfOk result (λ d. IsCounter d) }
 {
     let processes = processes(alloc, body(alloc, Word::make(1, 1), Word::make(4, 1))?)?;
-    let bits = bits(alloc)?;
+    let bits = bits(alloc, 11)?;
     let inputs = Items::from_slice(alloc, &[0, 1, 2])?;
     let registers = Items::from_slice(alloc, &[3, 4, 5, 6, 7, 8, 9])?;
-    let sites = sites(alloc)?;
+    let sites = sites(alloc, 4)?;
     Ok(Design {
         bits,
         declared: Items::new(alloc),

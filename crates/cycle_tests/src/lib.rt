@@ -5,4 +5,8 @@
 #[cfg(test)]
 mod counter;
 #[cfg(test)]
+mod decoder;
+#[cfg(test)]
+mod parts;
+#[cfg(test)]
 mod tests;

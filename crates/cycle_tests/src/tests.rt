@@ -1,10 +1,13 @@
 ghost use Rattle.std.specs.Prelude.{◌≡◌, ◌≤◌, ◌+◌, [], length, All, IfOk};
 ghost use Rattle.cycle_tests.specs.Counter.{IsCounter};
+ghost use Rattle.cycle_tests.specs.Decoder.{IsDecoder};
 
 use crate::counter::counter;
+use crate::decoder::decoder;
 use cycle_model::replay::hits_at;
 use cycle_model::sim::Sim;
 use design_core::setup::{Kinds, Setup, Stimulus};
+use design_cost::cost;
 use sqlite_items::Items;
 use std::alloc::{AllocError, Global};
 use std::test::Fail;
@@ -44,6 +47,39 @@ fn counts(rt: HostRuntime) -> Result<(), Fail> {
         assert_eq!(rt; registers(&sim), v_s);
         assert_eq!(rt; sim.marks().passed[2], inputs[0]);
     }
+    Ok(())
+}
+
+// The first process takes its item at 1 and at 2, the second one its own at 2 and at 3, since the lower digit of its label matches anything.
+#[test]
+fn decodes(rt: HostRuntime) -> Result<(), Fail> {
+    let alloc = rt.alloc();
+    let legal = decoder(alloc)?;
+    let mut sim = Sim::make(alloc, &legal, &[false])?;
+    for (s, a, q) in [
+        ([false, false], false, false),
+        ([true, false], true, false),
+        ([false, true], true, false),
+        ([false, false], false, true),
+        ([true, true], true, true),
+    ] {
+        sim.cycle(&s);
+        assert_eq!(rt; sim.read(2), a);
+        assert_eq!(rt; sim.read(3), q);
+        assert_eq!(rt; sim.marks().passed[3], s[0] != s[1]);
+        assert_eq!(rt; sim.marks().passed[4], s[0] == s[1]);
+        assert_eq!(rt; sim.marks().passed[5], s[1]);
+        assert_eq!(rt; sim.marks().passed[6], !s[1]);
+    }
+    Ok(())
+}
+
+// Two inputs of 3; two labels of 9 and an item of 6, whose bit the default assigns too; then a label of 9 and an item of 6.
+#[test]
+fn costs(rt: HostRuntime) -> Result<(), Fail> {
+    let alloc = rt.alloc();
+    let legal = decoder(alloc)?;
+    assert_eq!(rt; cost(alloc, legal.design())?, 45);
     Ok(())
 }
 

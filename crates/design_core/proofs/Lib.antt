@@ -1,5 +1,7 @@
 pub mod Truth
 pub mod Equations
+pub mod Below
+pub mod Labelling
 pub mod Effects
 pub mod Updates
 pub mod ResetLaws

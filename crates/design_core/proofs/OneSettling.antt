@@ -8,13 +8,14 @@ use Rattle.design_core.specs.declared.flat.Process.{Process}
 use Rattle.design_core.specs.declared.flat.Design.{Design}
 use Rattle.design_core.specs.Exec.{exec}
 use Rattle.design_core.specs.Drive.{needs}
+use Rattle.design_core.specs.Bounds.{IsWithin}
 use Rattle.design_core.specs.Settled.{is_clocked, updated, clocked_updates, Settled, Hit}
 use Rattle.design_core.specs.Alike.{Alike, SettlesAt}
 use Rattle.design_core.specs.Legality.{is_given, is_known, bodies, IsLegal}
 use Rattle.design_core.proofs.Truth.{or_right, or_cases}
 use Rattle.design_core.proofs.Effects.{Same, same_effect}
 use Rattle.design_core.proofs.ResetLaws.{reset_updates_same, flat_map_same, all_in}
-use Rattle.design_core.proofs.Settling.{is_settled, done, settled_once, to_bodies, among_some, some_among, Contains-some, some-Contains}
+use Rattle.design_core.proofs.Settling.{is_settled, done, settled_once, to_bodies, bodies_within, among_some, some_among, Contains-some, some-Contains}
 
 module _ (d : Design) (order : List ℕ) (legal : IsLegal d order) (held i v w : List Bool) (sv : Settled d held i v) (sw : Settled d held i w) where
   len : length v ≡ length w
@@ -31,11 +32,11 @@ module _ (d : Design) (order : List ℕ) (legal : IsLegal d order) (held i v w :
   ]
 
   same_known : Agree (is_known d order) v w
-  same_known = settled_once (is_given d) (bodies d order) v w legal.placed len
+  same_known = settled_once (is_given d) (bodies d order) v w (length d.bits) (length d.sites) (bodies_within d order legal) legal.placed len
       (to_bodies d order legal (λ x. (exec x v).values ≡ v) sv.stable) (to_bodies d order legal (λ x. (exec x w).values ≡ w) sw.stable) same_given
 
   same_body : (p : Process) → Contains d.processes p → (f : ℕ → Bool) × Same f (exec p.body v) (exec p.body w)
-  same_body p c = (_, same_effect p.body (is_known d order) v w len (all_in (λ (q : Process). (b : ℕ) → needs q.body b ≡ true → is_known d order b ≡ true) d.processes legal.reads p c) same_known)
+  same_body p c = (_, same_effect p.body (is_known d order) v w (length d.bits) (length d.sites) (all_in (λ (q : Process). IsWithin q.body (length d.bits) (length d.sites)) d.processes legal.within p c) len (all_in (λ (q : Process). (b : ℕ) → needs q.body b ≡ true → is_known d order b ≡ true) d.processes legal.reads p c) same_known)
 
   same_updates : clocked_updates d.processes v ≡ clocked_updates d.processes w
   same_updates = flat_map_same (λ (p : Process). cond (is_clocked p.kind) (exec p.body v).updates []) (λ (p : Process). cond (is_clocked p.kind) (exec p.body w).updates []) d.processes

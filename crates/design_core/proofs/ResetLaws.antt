@@ -17,7 +17,7 @@ use Rattle.bit_exprs.specs.Updates.{updates_of}
 use Rattle.bit_exprs.specs.Named.{part_reads, parts_read}
 use Rattle.bit_exprs.proofs.Reading.{same_updates}
 use Rattle.design_core.specs.declared.flat.Stmt.{Stmt, Row_of-Stmt, end_of-Stmt, more_of-Stmt}
-use Rattle.design_core.specs.declared.flat.Stmt.TheVariants.{Assign, Branch', Block'}
+use Rattle.design_core.specs.declared.flat.Stmt.TheVariants.{Assign, Branch', Block', Choice'}
 use Rattle.design_core.specs.declared.flat.Reset.{Reset}
 use Rattle.design_core.specs.declared.flat.Process.{Process}
 use Rattle.design_core.specs.declared.flat.Design.{Design}
@@ -54,6 +54,7 @@ mutual
   const_updates (Assign site false target value) v w h = refl
   const_updates (Branch' site test p x q y) v w h = absurd h
   const_updates (Block' shape all) v w h = all_const_updates all v w h
+  const_updates (Choice' site selector p items q other has_default) v w h = absurd h
 
   all_const_updates : {m : _} (all : Row_of-Stmt m) (v w : List Bool) → AssignConsts all → (exec_all all v).updates ≡ (exec_all all w).updates
   all_const_updates end_of-Stmt v w h = refl
@@ -125,6 +126,7 @@ test_true r (Logical' and chain shape all) v h on = absurd h
 reset_body : (r : Reset) (s : Stmt) (v w : List Bool) → IsResetBody r s → is_active (Some r) v ≡ true → is_active (Some r) w ≡ true → (exec s v).updates ≡ (exec s w).updates
 reset_body r (Assign site delayed target value) v w h on on' = absurd h
 reset_body r (Block' shape all) v w h on on' = absurd h
+reset_body r (Choice' site selector p items q other has_default) v w h on on' = absurd h
 reset_body r (Branch' site test p x q y) v w h on on' =
     let a = test_true r test v h.0 on in
     let b = test_true r test w h.0 on' in

@@ -15,12 +15,13 @@ use Rattle.design_core.specs.declared.flat.Process.{Process}
 use Rattle.design_core.specs.declared.flat.Design.{Design}
 use Rattle.design_core.specs.Exec.{Effect, exec, exec_each}
 use Rattle.design_core.specs.Drive.{drives, always}
+use Rattle.design_core.specs.Bounds.{IsWithin}
 use Rattle.design_core.specs.Settled.{is_clocked, updated, reset_updates, Settled}
 use Rattle.design_core.specs.Legality.{Placed, Distinct, is_given, known_after, process_at, bodies, IsLegal}
 use Rattle.design_core.proofs.Truth.{or_left, or_right, or_cases, either_way}
 use Rattle.design_core.proofs.Effects.{same_length, same_length_each, untouched, same_effect}
 use Rattle.design_core.proofs.Updates.{bit_performed}
-use Rattle.design_core.proofs.ResetLaws.{reset_updates_same}
+use Rattle.design_core.proofs.ResetLaws.{reset_updates_same, all_in}
 
 -- what executing the bodies in turn leaves
 pub record Settles (known : ℕ → Bool) (ss : List Stmt) (v0 : List Bool) (done : Effect) : Type 0 where
@@ -28,15 +29,15 @@ pub record Settles (known : ℕ → Bool) (ss : List Stmt) (v0 : List Bool) (don
   pub stable : All (λ s. (exec s done.values).values ≡ done.values) ss
   pub marks : done.marks ≡ flat_map (λ s. (exec s done.values).marks) ss
 
-pub settles : (known : ℕ → Bool) (ss : List Stmt) (v0 : List Bool) → Placed known ss → Settles known ss v0 (exec_each ss v0)
-settles known [] v0 placed = record { agrees = λ b k. refl; stable = All-nil (λ s. (exec s v0).values ≡ v0); marks = refl }
-settles known (s ∷ rest) v0 placed =
+pub settles : (known : ℕ → Bool) (ss : List Stmt) (v0 : List Bool) (n m : ℕ) → All (λ s. IsWithin s n m) ss → Placed known ss → Settles known ss v0 (exec_each ss v0)
+settles known [] v0 n m within placed = record { agrees = λ b k. refl; stable = All-nil (λ s. (exec s v0).values ≡ v0); marks = refl }
+settles known (s ∷ rest) v0 n m within placed =
     let v1 = (exec s v0).values in
     let v = (exec_each rest v1).values in
-    let ih = settles (λ b. known b || drives s b) rest v1 placed.2 in
+    let ih = settles (λ b. known b || drives s b) rest v1 n m (All-tail (λ x. IsWithin x n m) s rest within) placed.2 in
     let start : Agree known v v0 = λ b k. ih.agrees b (or_left (known b) (drives s b) k) ∙ untouched s b v0 (either_way (drives s b) (λ d. absurd (true≢false (sym k ∙ (placed.1 b d).1))) (λ d. d)) in
     let len : length v ≡ length v0 = same_length_each rest v1 ∙ same_length s v0 in
-    let e = same_effect s known v v0 len placed.0 start in
+    let e = same_effect s known v v0 n m (All-head (λ x. IsWithin x n m) s rest within) len placed.0 start in
     let here : (exec s v).values ≡ v = ext_get_or false _ v (same_length s v) (λ b lt. either_way (drives s b)
     (λ d. e.values b (or_right (known b) _ (placed.1 b d).0) ∙ sym (ih.agrees b (or_right (known b) _ d)))
     (λ d. untouched s b v d)) in
@@ -47,14 +48,14 @@ settles known (s ∷ rest) v0 placed =
     }
 
 -- two settled values that agree on the known bits agree on what is known after the bodies
-pub settled_once : (known : ℕ → Bool) (ss : List Stmt) (v w : List Bool) → Placed known ss → length v ≡ length w →
+pub settled_once : (known : ℕ → Bool) (ss : List Stmt) (v w : List Bool) (n m : ℕ) → All (λ s. IsWithin s n m) ss → Placed known ss → length v ≡ length w →
     All (λ s. (exec s v).values ≡ v) ss → All (λ s. (exec s w).values ≡ w) ss → Agree known v w → Agree (known_after known ss) v w
-settled_once known [] v w placed len sv sw agree = agree
-settled_once known (s ∷ rest) v w placed len sv sw agree =
-    let e = same_effect s known v w len placed.0 agree in
+settled_once known [] v w n m within placed len sv sw agree = agree
+settled_once known (s ∷ rest) v w n m within placed len sv sw agree =
+    let e = same_effect s known v w n m (All-head (λ x. IsWithin x n m) s rest within) len placed.0 agree in
     let hv : (exec s v).values ≡ v = All-head (λ x. (exec x v).values ≡ v) s rest sv in
     let hw : (exec s w).values ≡ w = All-head (λ x. (exec x w).values ≡ w) s rest sw in
-    settled_once (λ b. known b || drives s b) rest v w placed.2 len
+    settled_once (λ b. known b || drives s b) rest v w n m (All-tail (λ x. IsWithin x n m) s rest within) placed.2 len
     (All-tail (λ x. (exec x v).values ≡ v) s rest sv) (All-tail (λ x. (exec x w).values ≡ w) s rest sw)
     (λ b k. sym (ap (λ u. bit_at u b) hv) ∙ e.values b (elim (or_cases (known b) (drives s b) k) [ inl kn ↦ or_left (known b) (always s b) kn | inr d ↦ or_right (known b) (always s b) (placed.1 b d).0 ]) ∙ ap (λ u. bit_at u b) hw)
 
@@ -130,6 +131,9 @@ module _ (d : Design) (order : List ℕ) (legal : IsLegal d order) where
       let named : k < length d.processes = legal.named j 0 lt' in
       subst P (sym (body_get j e lt')) (each (process_at d k) (k, named, get_or_default d.processes k _ _ named) (legal.combinational j 0 lt'))
 
+  pub bodies_within : All (λ s. IsWithin s (length d.bits) (length d.sites)) (bodies d order)
+  bodies_within = to_bodies (λ s. IsWithin s (length d.bits) (length d.sites)) (λ p c comb. all_in (λ q. IsWithin q.body (length d.bits) (length d.sites)) d.processes legal.within p c)
+
   -- of the values of all bits, those of the registers
   abbrev pub held_in : List Bool → List Bool
   held_in base = map (bit_at base) d.registers
@@ -162,7 +166,7 @@ module _ (d : Design) (order : List ℕ) (legal : IsLegal d order) where
     in_place r wide_r k b at = inputs_at d.inputs i r k b legal.inputs_distinct (λ j e lt. rw wide_r (legal.inputs_within j e lt)) long at
 
     kept : (b : ℕ) → is_given d b ≡ true → bit_at (done base i) b ≡ bit_at (started base i) b
-    kept b given = (settles (is_given d) (bodies d order) (started base i) legal.placed).agrees b given
+    kept b given = (settles (is_given d) (bodies d order) (started base i) (length d.bits) (length d.sites) bodies_within legal.placed).agrees b given
 
     done_input : (k b : ℕ) → slice_get d.inputs k ≡ Some b → bit_at (done base i) b ≡ bit_at i k
     done_input k b at = kept b (or_left (among d.inputs b) (among d.registers b) (some_among d.inputs k b at)) ∙ in_place (perform put base) set_wide k b at
@@ -188,5 +192,5 @@ module _ (d : Design) (order : List ℕ) (legal : IsLegal d order) where
       inputs_wide = long;
       given = done_input;
       registers = done_register;
-      stable = of_bodies (λ x. (exec x (done base i)).values ≡ done base i) (settles (is_given d) (bodies d order) (started base i) legal.placed).stable;
+      stable = of_bodies (λ x. (exec x (done base i)).values ≡ done base i) (settles (is_given d) (bodies d order) (started base i) (length d.bits) (length d.sites) bodies_within legal.placed).stable;
     }

@@ -1,5 +1,5 @@
 -- Truth values.
-use Rattle.std.proofs.Common.{◌≡◌, Bool, true, false, ◌&&◌, ◌||◌, refl, ap, ◌⊎◌, inl, inr}
+use Rattle.std.proofs.Common.{◌≡◌, Bool, true, false, ◌&&◌, ◌||◌, refl, sym, ap, ◌∙◌, ◌⊎◌, inl, inr}
 
 pub or_left : (a b : Bool) → a ≡ true → a || b ≡ true
 or_left a b h = ap (λ x. x || b) h
@@ -24,11 +24,11 @@ pub or_false_right : (a b : Bool) → a || b ≡ false → b ≡ false
 or_false_right true b h = cc
 or_false_right false b h = h
 
-and_left : (a b : Bool) → a && b ≡ true → a ≡ true
+pub and_left : (a b : Bool) → a && b ≡ true → a ≡ true
 and_left true b h = refl
 and_left false b h = cc
 
-and_right : (a b : Bool) → a && b ≡ true → b ≡ true
+pub and_right : (a b : Bool) → a && b ≡ true → b ≡ true
 and_right true b h = h
 and_right false b h = cc
 
@@ -51,3 +51,24 @@ or_and_right false c d h = and_right c d h
 pub or_swap : (a c d : Bool) → a || (c || d) ≡ true → (a || c) || d ≡ true
 or_swap true c d h = refl
 or_swap false c d h = h
+
+-- of three that are to hold, the first one
+pub or_and_first : (a c d e : Bool) → a || ((c && d) && e) ≡ true → a || c ≡ true
+or_and_first true c d e h = refl
+or_and_first false c d e h = and_left c d (and_left (c && d) e h)
+
+-- the others
+pub or_and_rest : (a c d e : Bool) → a || ((c && d) && e) ≡ true → a || (d && e) ≡ true
+or_and_rest true c d e h = refl
+or_and_rest false true d e h = h
+or_and_rest false false d e h = cc
+
+pub or_and_some : (a c d : Bool) → a || (c && d) ≡ true → a || (c && true) ≡ true
+or_and_some true c d h = refl
+or_and_some false true d h = refl
+or_and_some false false d h = cc
+
+pub or_or_none : (a c d : Bool) → d ≡ false → a || (c || d) ≡ true → a || c ≡ true
+or_or_none true c d off h = refl
+or_or_none false true d off h = refl
+or_or_none false false d off h = sym off ∙ h

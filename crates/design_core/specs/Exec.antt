@@ -1,9 +1,10 @@
 -- What a body does when it is executed.
-use Rattle.std.specs.Prelude.{ℕ, ◌+◌, ◌==◌, Bool, true, false, cond, not, List, [], ◌∷◌, ◌++◌, Option, Some, None}
-use Rattle.bit_exprs.specs.Values.{value_of}
+use Rattle.std.specs.Prelude.{ℕ, suc, ◌+◌, ◌==◌, Bool, true, false, cond, not, List, [], ◌∷◌, ◌++◌, Option, Some, None}
+use Rattle.bit_exprs.specs.Values.{width_of, value_of}
 use Rattle.bit_exprs.specs.Updates.{updates_of, perform}
-use Rattle.design_core.specs.declared.flat.Stmt.{Stmt, Row_of-Stmt, end_of-Stmt, more_of-Stmt}
-use Rattle.design_core.specs.declared.flat.Stmt.TheVariants.{Assign, Branch', Block'}
+use Rattle.design_core.specs.declared.flat.Stmt.{Stmt, Row_of-Stmt, end_of-Stmt, more_of-Stmt, Row_of-Item, end_of-Item, more_of-Item}
+use Rattle.design_core.specs.declared.flat.Stmt.TheVariants.{Assign, Branch', Block', Choice'}
+use Rattle.design_core.specs.Labels.{any_matches}
 
 abbrev pub xor : Bool → Bool → Bool
 xor a b = cond a (not b) b
@@ -38,6 +39,13 @@ abbrev mutual
   exec (Branch' site test p a q b) v =
       cond (value_of test v == 0) (past ((site + 1) ∷ []) (exec_all b v)) (past (site ∷ []) (exec_all a v))
   exec (Block' shape all) v = exec_all all v
+  exec (Choice' site selector p items q other has_default) v = exec_items site (width_of selector) (value_of selector v) items (exec_all other v) v
+
+  -- a choice takes the first item one of whose labels is equal to the word a of w bits, else its default (IEEE 1364-2001 clause 9.5)
+  pub exec_items : {m : _} → ℕ → ℕ → ℕ → Row_of-Item m → Effect → List Bool → Effect
+  exec_items site w a end_of-Item default v = past (site ∷ []) default
+  exec_items site w a (more_of-Item labels body rest) default v =
+      cond (any_matches w a v labels) (past (site ∷ []) (exec body v)) (exec_items (suc site) w a rest default v)
 
   pub exec_all : {m : _} → Row_of-Stmt m → List Bool → Effect
   exec_all end_of-Stmt v = record { values = v; updates = []; marks = [] }

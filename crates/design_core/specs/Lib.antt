@@ -1,9 +1,11 @@
+pub mod Labels
 pub mod Exec
 pub mod Drive
 pub mod Bounds
 pub mod Settled
 pub mod Resets
 pub mod Legality
+pub mod Flat
 pub mod Runs
 pub mod Verdicts
 pub mod Ordered

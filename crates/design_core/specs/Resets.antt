@@ -8,7 +8,7 @@ use Rattle.bit_exprs.specs.declared.forms.Part.{Part}
 use Rattle.bit_exprs.specs.declared.forms.Part.TheVariants as parts
 use Rattle.bit_exprs.specs.declared.forms.Target.{Target}
 use Rattle.design_core.specs.declared.flat.Stmt.{Stmt, Row_of-Stmt, end_of-Stmt, more_of-Stmt}
-use Rattle.design_core.specs.declared.flat.Stmt.TheVariants.{Assign, Branch', Block'}
+use Rattle.design_core.specs.declared.flat.Stmt.TheVariants.{Assign, Branch', Block', Choice'}
 use Rattle.design_core.specs.declared.flat.Reset.{Reset}
 use Rattle.design_core.specs.declared.flat.Process.{Process}
 use Rattle.design_core.specs.declared.flat.Design.{Design}
@@ -38,6 +38,7 @@ abbrev mutual
   AssignsConsts (Assign site delayed target value) = IsConst value × IsPlainTarget target
   AssignsConsts (Branch' site test p x q y) = ⊥
   AssignsConsts (Block' shape all) = AssignConsts all
+  AssignsConsts (Choice' site selector p items q other has_default) = ⊥
 
   pub AssignConsts : {m : _} → Row_of-Stmt m → Type 0
   AssignConsts end_of-Stmt = Unit {0}
@@ -84,6 +85,7 @@ abbrev pub IsResetBody : Reset → Stmt → Type 0
 IsResetBody r (Assign site delayed target value) = ⊥
 IsResetBody r (Branch' site test p x q y) = IsResetTest r test × AssignConsts x
 IsResetBody r (Block' shape all) = ⊥
+IsResetBody r (Choice' site selector p items q other has_default) = ⊥
 
 -- if the process has a reset, it is an input, and the body has the form of one with that reset
 abbrev pub HasReset : Design → Process → Type 0

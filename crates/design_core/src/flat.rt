@@ -2,7 +2,7 @@
 
 use bit_exprs::forms::{Bit, Expr, Target};
 use sqlite_items::{Boxed, Items};
-use word_core::{Name, Place};
+use word_core::{Name, Place, Word};
 
 /// A bit's name, and the value that it is declared to start with.
 #[derive(Drop)]
@@ -74,7 +74,8 @@ pub struct Reset {
     pub active: bool,
 }
 
-/// A statement. The arm `yes` of a branch has its site, and the arm `no` the next one.
+/// A statement. The arm `yes` of a branch has its site, and the arm `no` the next one. The items of a choice have the sites from its own on, in
+/// order, and its default has the one behind them.
 #[derive(Drop)]
 #[cycle(stmt)]
 pub enum Stmt {
@@ -92,6 +93,31 @@ pub enum Stmt {
         no: Boxed<Stmt>,
     },
     Block(Items<Stmt>),
+    /// A `case` or `casez` (IEEE 1364-2001 clause 9.5). Its selector and its labels are brought to one context, so they have one width.
+    Choice {
+        site: u32,
+        selector: Expr,
+        items: Items<Item>,
+        /// What is done where no label is equal; it does nothing where no default is written.
+        other: Boxed<Stmt>,
+        /// Whether a default is written.
+        has_default: bool,
+    },
+}
+
+/// An item of a choice: it is taken where one of its labels is equal to the selector, and none of an item before it is.
+#[derive(Drop)]
+#[cycle(stmt)]
+pub struct Item {
+    pub labels: Items<Label>,
+    pub body: Stmt,
+}
+
+/// A label, and which of its digits match anything: those where `wild`, a word of the label's width, has a 1.
+#[derive(Drop)]
+pub struct Label {
+    pub value: Expr,
+    pub wild: Word,
 }
 
 /// A place of the source that executing a body passes.
@@ -104,7 +130,7 @@ pub struct Site {
     pub ordinal: u32,
 }
 
-/// An assignment, or an arm of a branch.
+/// An assignment, or an arm of a branch or a choice.
 #[derive(Clone, Copy, Debug, PartialEq, Eq)]
 pub enum SiteKind {
     Assignment,
@@ -115,4 +141,7 @@ pub enum SiteKind {
 pub enum ArmKind {
     Then,
     Else,
+    /// An item of a choice, by its place among the items, from 1.
+    Item { number: u32 },
+    Default,
 }

@@ -1,20 +1,18 @@
-pub mod SiteLists
-pub mod Driving
-pub mod Owning
-pub mod Inverses
-pub mod StatementForms
-mod BodyForms
-pub mod Counts
-pub mod SiteCounts
-pub mod OneDesign
-pub mod Rooms
-pub mod Turns
-pub mod Ports
 pub mod Listed
-pub mod NetNames
-pub mod Assembly
-pub mod Assigning
+pub mod Declarations
 pub mod NetBits
-mod FineBodies
-pub mod LegalDesigns
+pub mod DeclaredWithin
+pub mod Marking
+pub mod SiteLists
+pub mod ForkForms
+pub mod Each
+pub mod Sums
+pub mod FineProcesses
+pub mod RegisterLaws
+pub mod SourceArms
+pub mod DesignParts
+pub mod NetNames
 pub mod BitNames
+pub mod SiteForms
+pub mod FlatDesigns
+pub mod OneDesign

@@ -5,7 +5,7 @@ use Rattle.std.proofs.lemmas.List.{take_more, take_all, append-nil}
 use Rattle.std.proofs.lemmas.Grind.{flat_map-append}
 use Rattle.std.proofs.lemmas.Nat.{shr-shr, and_mask}
 use Rattle.word_core.specs.Words.{bits_of}
-use Rattle.elab_flat.specs.Nets.{bit_start}
+use Rattle.elab_flat.specs.Bits.{bit_start}
 
 module _ {X Y : Type 0} (f : X → List Y) (xs : List X) (k : ℕ) where
   pub each_more : (x : X) (made later : List Y) → x ≡ get_or xs k x → k < length xs → later ≡ made ++ f x → made ≡ flat_map f (take k xs) → later ≡ flat_map f (take (k + 1) xs)

@@ -1,6 +1,6 @@
-pub mod Nets
-pub mod Bodies
-pub mod Assigned
-pub mod Driven
+pub mod Processes
+pub mod Fine
+pub mod Sites
+pub mod Bits
+pub mod Marks
 pub mod Designs
-pub mod Owners

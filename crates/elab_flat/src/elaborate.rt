@@ -1,24 +1,25 @@
 // From a tree and a setup to a design.
 
-ghost use Rattle.std.specs.Prelude.{◌≡◌, ◌<◌, ◌≤◌, ◌+◌, ◌-◌, ◌*◌, ◌/◌, ◌^◌, List, length, All, MatchOption, IfOk};
-ghost use Rattle.elab_flat.specs.Nets.{names_of, info_of, declared_of, each_of, bits_where, is_data_input, is_register};
-ghost use Rattle.elab_flat.specs.Bodies.{assignments_in, branches_in, sum_over, IsClockedBy};
-ghost use Rattle.elab_flat.specs.Designs.{AreDistinct, IsClock, AreNetsOf, AreProcesses, IsModuleDesign, first_place, Flattens};
+ghost use Rattle.std.specs.Prelude.{◌≡◌, ◌<◌, ◌≤◌, ◌^◌, length, MatchOption, IfOk, IfSome};
+ghost use Rattle.design_core.specs.Flat.{IsFlat};
+ghost use Rattle.elab_flat.specs.Bits.{each_of, info_of};
+ghost use Rattle.elab_flat.specs.Processes.{assignments_of};
+ghost use Rattle.elab_flat.specs.Designs.{bare_design, design_from, clocked_design, built_design, IsModuleDesign, first_place, Flattens};
 
-use crate::bodies::{Numbers, are_clocked_by, processes, statement_count};
-use crate::drivers::is_driven;
-use crate::names::{bits, declared, inputs, registers};
-use crate::nets::{Net, nets};
-use crate::scopes::{are_distinct, clock_bit, scope};
+use crate::counts::counts;
+use crate::names::{bits, clock_bit, declared, inputs};
+use crate::processes::processes;
+use crate::registers::registers;
 use crate::sites::sites;
-use crate::targets::are_assignable;
 use bit_exprs::forms::Bit;
-use design_core::flat::{Design, Process, Site};
+use design_core::flat::{Design, Process};
 use design_core::setup::Setup;
+use elab_bodies::Numbers;
+use elab_nets::{Declared, Net, declarations};
 use sqlite_items::Items;
 use std::alloc::{AllocError, Global};
-use vlog_syntax::{Item, Module, Tree};
-use word_core::{Name, Place};
+use vlog_syntax::{Module, Tree};
+use word_core::Place;
 
 /// Why a tree has no design under a setup.
 #[derive(Clone, Copy, Debug)]
@@ -50,86 +51,109 @@ fn first_token(tree: &Tree) -> Place
     }
 }
 
-/// How many branches there are, where their arms took the sites from `first` on and `next` is the next one.
-fn branch_count(first: u32, next: u32) -> u32
-    requires { first ≤ next }
-    ensures half { result ≡ (next - first) / 2 }
-    ensures few { first + 2 * result < 2 ^ 32 }
-{
-    (next - first) / 2
-}
-
-/// The processes of items with this number of assignments, and the number of their branches. None where they assign another net than a
-/// register, a body isn't built, or the registers aren't driven by one process each. The error is that memory ran out, or that there would be 2^32 sites or more.
-fn driven_processes(
-    alloc: Global,
-    clock_name: &Name,
-    nets: &[Net],
-    clock: Bit,
-    items: &[Item],
-    statements: u32,
-) -> Result<Option<(Items<Process>, u32)>, AllocError>
-    requires distinct { AreDistinct (names_of nets.now) }
-    requires counted { statements ≡ sum_over assignments_in items.now }
-    ensures { IfOk result (λ o. MatchOption o ((ps : List Process) → AreProcesses clock_name.now nets.now clock items.now ps → ⊥)
-        (λ x. AreProcesses clock_name.now nets.now clock items.now x.0 × (x.1 ≡ sum_over branches_in items.now) × (statements + 2 * x.1 < 2 ^ 32))) }
-{
-    if !are_assignable(alloc, nets, items)? {
-        return Ok(None);
-    }
-    let scope = scope(alloc, clock_name, nets)?;
-    let mut numbers = Numbers {
-        site: 0,
-        arm: statements,
-    };
-    let Some(processes) = processes(alloc, &scope, clock, items, &mut numbers)? else {
-        return Ok(None);
-    };
-    let registers = registers(alloc, nets)?;
-    if !is_driven(alloc, processes.as_slice(), registers.as_slice())? {
-        return Ok(None);
-    }
-    Ok(Some((processes, branch_count(statements, numbers.arm))))
-}
-
-/// The design over nets, with these processes and sites.
-fn design(
-    alloc: Global,
-    path: &Name,
-    clock_name: &Name,
-    nets: &[Net],
-    clock: Bit,
-    processes: Items<Process>,
-    sites: Items<Site>,
-) -> Result<Design, AllocError>
-    ensures { IfOk result (λ d. d ≡ record {
-      bits = each_of (info_of path.now) nets.now;
-      declared = each_of (declared_of path.now) nets.now;
-      inputs = bits_where (is_data_input clock_name.now) nets.now;
-      clock = clock;
-      registers = bits_where is_register nets.now;
-      processes = processes;
-      sites = sites;
-    }) }
-{
-    Ok(Design {
-        bits: bits(alloc, path, nets)?,
-        declared: declared(alloc, path, nets)?,
-        inputs: inputs(alloc, clock_name, nets)?,
-        clock,
-        registers: registers(alloc, nets)?,
-        processes,
-        sites,
-    })
-}
-
-/// The nets of a module, or none where it isn't the top or has ports that aren't built, or where an input is held.
-fn module_nets(
+/// The design over nets with these processes, of which this bit is the clock, but for its registers. The module has so many assignments.
+fn bare_design(
     alloc: Global,
     source: &Module,
     setup: &Setup,
-) -> Result<Option<Items<Net>>, AllocError>
-    ensures { IfOk result (λ o. MatchOption o ((nets : List Net) → AreNetsOf source.now setup.now nets → ⊥) (λ nets. AreNetsOf source.now setup.now nets)) }
+    nets: &[Net],
+    clock: Bit,
+    assignments: u32,
+    processes: Items<Process>,
+) -> Result<Design, AllocError>
+    requires { assignments ≡ assignments_of source.now }
+    ensures value { IfOk result (λ d. d ≡ bare_design source.now setup.now nets.now clock processes) }
+    ensures few { IfOk result (λ d. length d.sites < 2 ^ 32) }
+{
+    let path = &source.name.name;
+    Ok(Design {
+        bits: bits(alloc, path, nets)?,
+        declared: declared(alloc, path, nets)?,
+        inputs: inputs(alloc, &setup.clock, nets)?,
+        clock,
+        registers: Items::new(alloc),
+        processes,
+        sites: sites(alloc, source, assignments)?,
+    })
+}
+
+/// The same with its registers.
+#[tactic(auto, using(crate::proofs::DesignParts::whole_is))]
+fn whole_design(
+    alloc: Global,
+    source: &Module,
+    setup: &Setup,
+    nets: &[Net],
+    clock: Bit,
+    assignments: u32,
+    processes: Items<Process>,
+) -> Result<Design, AllocError>
+    requires counted { assignments ≡ assignments_of source.now }
+    requires few_bits { length (each_of (info_of source.now.name.name) nets.now) ≤ 65536 }
+    ensures value { IfOk result (λ d. d ≡ design_from source.now setup.now nets.now clock processes) }
+    ensures few { IfOk result (λ d. length d.sites < 2 ^ 32) }
+{
+    let mut design = bare_design(alloc, source, setup, nets, clock, assignments, processes)?;
+    design.registers = registers(alloc, &design)?;
+    Ok(design)
+}
+
+/// The design over these declarations, of which this bit is the clock. None where its processes aren't built.
+fn clocked_design(
+    alloc: Global,
+    source: &Module,
+    setup: &Setup,
+    declared: Declared,
+    clock: Bit,
+) -> Result<Option<Design>, AllocError>
+    requires { length (each_of (info_of source.now.name.name) declared.nets) ≤ 65536 }
+    ensures value { IfOk result (λ o. o ≡ clocked_design source.now setup.now declared clock) }
+    ensures few { IfOk result (λ o. IfSome o (λ d. length d.sites < 2 ^ 32)) }
+{
+    let mut scope = declared.scope;
+    let nets = declared.nets.as_slice();
+    let assignments = counts(source)?.assignments;
+    let first = Numbers {
+        site: 0,
+        arm: assignments,
+        unrolled: 0,
+    };
+    let Some(made) = processes(alloc, &mut scope, clock, source, first)? else {
+        return Ok(None);
+    };
+    let processes = made.processes;
+    let design = whole_design(alloc, source, setup, nets, clock, assignments, processes)?;
+    Ok(Some(design))
+}
+
+/// The design of a module. None where its declarations or its processes aren't built, or none of its nets is the clock.
+#[tactic(auto, using(crate::proofs::DeclaredWithin::few_bits))]
+fn built_design(
+    alloc: Global,
+    source: &Module,
+    setup: &Setup,
+) -> Result<Option<Design>, AllocError>
+    ensures value { IfOk result (λ o. o ≡ built_design source.now setup.now) }
+    ensures few { IfOk result (λ o. IfSome o (λ d. length d.sites < 2 ^ 32)) }
+{
+    let Some(declared) = declarations(alloc, source)? else {
+        return Ok(None);
+    };
+    let Some(clock) = clock_bit(&setup.clock, declared.nets.as_slice()) else {
+        return Ok(None);
+    };
+    clocked_design(alloc, source, setup, declared, clock)
+}
+
+/// The design of a module, or none where it has none. Want of memory is answered also where it has 2^32 sites or more.
+#[tactic(auto, using(crate::proofs::DesignParts::module_judged))]
+fn flatten_module(
+    alloc: Global,
+    source: &Module,
+    setup: &Setup,
+) -> Result<Option<Design>, AllocError>
+    ensures value { IfOk result (λ o. MatchOption o ((d : Design) → IsModuleDesign source.now setup.now d → ⊥) (λ d. IsModuleDesign source.now setup.now d)) }
+    ensures few { IfOk result (λ o. IfSome o (λ d. length d.sites < 2 ^ 32)) }
 {
     if source.name.name != setup.top {
         return Ok(None);
@@ -137,91 +161,15 @@ fn module_nets(
     if !setup.hold.is_empty() {
         return Ok(None);
     }
-    let Some(nets) = nets(alloc, source.ports.as_slice())? else {
-        return Ok(None);
-    };
-    if !are_distinct(alloc, nets.as_slice())? {
-        return Ok(None);
-    }
-    Ok(Some(nets))
+    built_design(alloc, source, setup)
 }
 
-/// The design of a module with these nets, of which this bit is the clock, and this number of assignments.
-fn clocked_design(
-    alloc: Global,
-    source: &Module,
-    setup: &Setup,
-    nets: &[Net],
-    clock: Bit,
-    statements: u32,
-) -> Result<Option<Design>, AllocError>
-    requires nets { AreNetsOf source.now setup.now nets.now }
-    requires clock { (n : Net) × IsClock setup.now.clock nets.now n × (clock ≡ n.vector.first) }
-    requires clocked { All (IsClockedBy setup.now.clock) source.now.items }
-    requires counted { statements ≡ sum_over assignments_in source.now.items }
-    requires few { statements ≤ 65536 }
-    ensures { IfOk result (λ o. MatchOption o ((d : Design) → IsModuleDesign source.now setup.now d → ⊥)
-        (λ d. IsModuleDesign source.now setup.now d × (length d.sites < 2 ^ 32))) }
-{
-    let driven = driven_processes(
-        alloc,
-        &setup.clock,
-        nets,
-        clock,
-        source.items.as_slice(),
-        statements,
-    )?;
-    let Some((processes, branches)) = driven else {
-        return Ok(None);
-    };
-    let path = &source.name.name;
-    let sites = sites(alloc, path, statements, branches)?;
-    let design = design(alloc, path, &setup.clock, nets, clock, processes, sites)?;
-    Ok(Some(design))
-}
-
-/// The design of a module with these nets, or none where it has none.
-fn flatten_nets(
-    alloc: Global,
-    source: &Module,
-    setup: &Setup,
-    nets: &[Net],
-) -> Result<Option<Design>, AllocError>
-    requires { AreNetsOf source.now setup.now nets.now }
-    ensures { IfOk result (λ o. MatchOption o ((d : Design) → IsModuleDesign source.now setup.now d → ⊥)
-        (λ d. IsModuleDesign source.now setup.now d × (length d.sites < 2 ^ 32))) }
-{
-    let Some(clock) = clock_bit(&setup.clock, nets) else {
-        return Ok(None);
-    };
-    let items = source.items.as_slice();
-    if !are_clocked_by(&setup.clock, items) {
-        return Ok(None);
-    }
-    let Some(statements) = statement_count(items) else {
-        return Ok(None);
-    };
-    clocked_design(alloc, source, setup, nets, clock, statements)
-}
-
-/// The design of a module, or none where it has none. Want of memory is answered also where it has 2^32 sites or more.
-fn flatten_module(
-    alloc: Global,
-    source: &Module,
-    setup: &Setup,
-) -> Result<Option<Design>, AllocError>
-    ensures { IfOk result (λ o. MatchOption o ((d : Design) → IsModuleDesign source.now setup.now d → ⊥)
-        (λ d. IsModuleDesign source.now setup.now d × (length d.sites < 2 ^ 32))) }
-{
-    let Some(nets) = module_nets(alloc, source, setup)? else {
-        return Ok(None);
-    };
-    flatten_nets(alloc, source, setup, nets.as_slice())
-}
-
-/// The design of a text's tree under a setup. The time is linear in the tree, names being found by their hash.
+/// The design of a text's tree under a setup. The time is linear in the tree, names being found by their hash, but for what names in the values
+/// of expressions cost, and for the turns of loops, whose bodies are built in each.
+#[tactic(auto, using(crate::proofs::FlatDesigns::module_flat))]
 pub fn flatten(alloc: Global, tree: &Tree, setup: &Setup) -> Result<Design, FlatError>
-    ensures { Flattens tree.now setup.now result }
+    ensures answer { Flattens tree.now setup.now result }
+    ensures flat { IfOk result (λ d. IsFlat d) }
 {
     let at = first_token(tree);
     let modules = tree.modules.as_slice();

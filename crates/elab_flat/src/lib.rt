@@ -1,13 +1,13 @@
 //! From a text's tree and a setup to a design on words.
 #![tactic(auto)]
 
-mod bodies;
-mod drivers;
+mod counts;
 mod elaborate;
+mod events;
+mod laws;
 mod names;
-mod nets;
-mod scopes;
+mod processes;
+mod registers;
 mod sites;
-mod targets;
 
 pub use elaborate::{FlatError, flatten};

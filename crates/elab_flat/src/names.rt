@@ -1,13 +1,13 @@
 // The bits of nets, and their names.
 
-ghost use Rattle.std.specs.Prelude.{◌≡◌, ◌≤◌, ◌<◌, [], ◌++◌, cond, codes, decimal, IfOk, OnOk};
+ghost use Rattle.std.specs.Prelude.{◌≡◌, ◌<◌, [], ◌++◌, cond, codes, decimal, IfOk, OnOk};
 ghost use Rattle.bit_exprs.specs.Values.{listed};
 ghost use Rattle.expr_elab.specs.Vectors.{range_width, vector_width, bits_of};
-ghost use Rattle.elab_flat.specs.Nets.{in_scope, index_at, bit_name, bit_start, info_of, declared_of, each_of, bits_where, is_data_input, is_register};
+ghost use Rattle.elab_flat.specs.Bits.{in_scope, index_at, bit_name, bit_start, info_of, declared_bit, each_of, is_input, is_clock, clock_of, bits_where, is_data_input};
 
-use crate::nets::Net;
 use bit_exprs::forms::Bit;
 use design_core::flat::{BitInfo, Declared};
+use elab_nets::{Kind, Net};
 use expr_elab::vectors::{Range, Vector};
 use expr_elab::{rises, width};
 use itoa::Buffer;
@@ -85,7 +85,7 @@ fn start_bit(net: &Net, place: u8) -> Option<bool>
 /// What is declared of a bit of a net.
 fn declared_bit(alloc: Global, path: &Name, net: &Net, place: u8) -> Result<Declared, AllocError>
     requires { place < vector_width net.now.vector }
-    ensures { IfOk result (λ d. d ≡ declared_of path.now net.now place) }
+    ensures { IfOk result (λ d. d ≡ declared_bit path.now net.now place) }
 {
     Ok(Declared {
         name: bit_name(alloc, path, net, place)?,
@@ -127,7 +127,7 @@ fn add_declared(
     net: &Net,
     declared: &mut Items<Declared>,
 ) -> Result<(), AllocError>
-    ensures { OnOk result (declared.new ≡ declared.old ++ listed (declared_of path.now net.now) 0 (vector_width net.now.vector)) }
+    ensures { OnOk result (declared.new ≡ declared.old ++ listed (declared_bit path.now net.now) 0 (vector_width net.now.vector)) }
 {
     for place in 0..width(net.vector) {
         declared.push(declared_bit(alloc, path, net, place)?)?;
@@ -137,7 +137,7 @@ fn add_declared(
 
 /// What is declared, in order.
 pub fn declared(alloc: Global, path: &Name, nets: &[Net]) -> Result<Items<Declared>, AllocError>
-    ensures { IfOk result (λ declared. declared ≡ each_of (declared_of path.now) nets.now) }
+    ensures { IfOk result (λ declared. declared ≡ each_of (declared_bit path.now) nets.now) }
 {
     let mut declared = Items::new(alloc);
     for net in nets {
@@ -156,11 +156,22 @@ fn add_numbers(vector: Vector, bits: &mut Items<Bit>) -> Result<(), AllocError>
     Ok(())
 }
 
+/// Whether a net is driven from outside.
+fn is_input(kind: Kind) -> bool
+    ensures { result ≡ is_input kind }
+{
+    match kind {
+        Kind::Input => true,
+        Kind::Wire => false,
+        Kind::Variable => false,
+    }
+}
+
 /// Puts the bits of a net behind the others, where it is an input but not the clock.
 fn add_input(clock: &Name, net: &Net, bits: &mut Items<Bit>) -> Result<(), AllocError>
     ensures { OnOk result (bits.new ≡ bits.old ++ cond (is_data_input clock.now net.now) (bits_of net.now.vector) []) }
 {
-    if !net.input || net.name == *clock {
+    if !is_input(net.kind) || net.name == *clock {
         return Ok(());
     }
     add_numbers(net.vector, bits)
@@ -177,23 +188,24 @@ pub fn inputs(alloc: Global, clock: &Name, nets: &[Net]) -> Result<Items<Bit>, A
     Ok(bits)
 }
 
-/// Puts the bits of a net behind the others, where it is a register.
-fn add_register(net: &Net, bits: &mut Items<Bit>) -> Result<(), AllocError>
-    ensures { OnOk result (bits.new ≡ bits.old ++ cond (is_register net.now) (bits_of net.now.vector) []) }
+/// Whether a net is the clock: an input of one bit.
+fn is_clock(clock: &Name, net: &Net) -> bool
+    ensures { result ≡ is_clock clock.now net.now }
 {
-    if net.input {
-        return Ok(());
+    if net.name != *clock {
+        return false;
     }
-    add_numbers(net.vector, bits)
+    is_input(net.kind) && width(net.vector) == 1
 }
 
-/// The bits of the registers, in order.
-pub fn registers(alloc: Global, nets: &[Net]) -> Result<Items<Bit>, AllocError>
-    ensures { IfOk result (λ bits. bits ≡ bits_where is_register nets.now) }
+/// The bit of the clock, where it is an input of one bit.
+pub fn clock_bit(clock: &Name, nets: &[Net]) -> Option<Bit>
+    ensures { result ≡ clock_of clock.now nets.now }
 {
-    let mut bits = Items::new(alloc);
     for net in nets {
-        add_register(net, &mut bits)?;
+        if is_clock(clock, net) {
+            return Some(net.vector.first);
+        }
     }
-    Ok(bits)
+    None
 }

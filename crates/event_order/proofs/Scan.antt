@@ -1,11 +1,18 @@
 -- What a body reads and assigns, statement by statement.
-use Rattle.std.proofs.Common.{◌≡◌, ℕ, Bool, true, false, not, ◌&&◌, ◌||◌, List, [], ◌∷◌, refl, sym, ap, ◌∙◌}
+use Rattle.std.proofs.Common.{◌≡◌, ℕ, Bool, true, false, not, ◌&&◌, ◌||◌, List, [], ◌∷◌, refl, sym, ap, ◌∙◌, ◌+◌, ◌<◌, ◌≤◌, map, drop, get_or, length}
+use Rattle.std.specs.Prelude.{flat_map}
+use Rattle.std.proofs.lemmas.List.{at_drop_more, drop_all}
+use Rattle.word_core.specs.Words.{any, all}
 use denote.Hole.Carrier.{hidden}
 use mathlib.Core.Former.{Count}
 use Rattle.bit_exprs.specs.declared.forms.Expr.{Expr}
-use Rattle.design_core.specs.declared.flat.Stmt.{Stmt, Branch, Block, Row_of-Stmt, end_of-Stmt, more_of-Stmt, items-the_row-Stmt, items_hidden-the_row-Stmt-1}
+use Rattle.design_core.specs.declared.flat.Stmt.{Stmt, Branch, Block, Choice, Row_of-Stmt, end_of-Stmt, more_of-Stmt, items-the_row-Stmt, items_hidden-the_row-Stmt-1}
 use Rattle.design_core.specs.declared.flat.Stmt.TheVariants.{Block'}
 use Rattle.design_core.specs.declared.flat.Stmt.TheBlock.{hidden-the_row-Stmt-0}
+use Rattle.design_core.specs.declared.flat.Item.{Item}
+use Rattle.design_core.specs.declared.flat.Label.{Label}
+use Rattle.design_core.specs.Labels.{labels_read, covers}
+use Rattle.design_core.proofs.Equations.{always-Choice, item_needs, needs-Choice}
 use Rattle.bit_exprs.specs.Named.{reads}
 use Rattle.design_core.specs.Drive.{always, any_always, needs, any_needs}
 
@@ -95,3 +102,81 @@ always_then body x y site test b is h = always_branch body x y site test b is �
 
 pub always_else : (body x y : Stmt) (site : ℕ) (test : Expr) (b : ℕ) → body ≡ Branch site test x y → always x b ≡ false → always body b ≡ false
 always_else body x y site test b is h = always_branch body x y site test b is ∙ ap (λ a. a && always y b) h
+
+-- ---- a choice by its parts
+
+and_first : (a b : Bool) → a ≡ false → (a && b) ≡ false
+and_first a b h = ap (λ x. x && b) h
+
+and_second : (a b : Bool) → a ≡ true → (a && b) ≡ b
+and_second a b h = ap (λ x. x && b) h
+
+abbrev pub item_always : ℕ → Item → Bool
+item_always b i = always i.body b
+
+module _ (body : Stmt) (site : ℕ) (selector : Expr) (items : List Item) (other : Stmt) (has_default : Bool) (b : ℕ) (is : body ≡ Choice site selector items other has_default)
+    (list : List Item) (listed : list ≡ items) where
+  always_choice : always body b ≡ (all (map (item_always b) list) && (always other b || (not has_default && covers selector (flat_map (λ (i : Item). i.labels) list))))
+  always_choice =
+      ap (λ (s : Stmt). always s b) is ∙ always-Choice site selector items other has_default b
+      ∙ ap (λ xs. all (map (item_always b) xs) && (always other b || (not has_default && covers selector (flat_map (λ (i : Item). i.labels) xs)))) (sym listed)
+
+  pub always_missed : (i : ℕ) (x : Item) → i < length list → x ≡ get_or list i x → always x.body b ≡ false →
+      all (map (item_always b) (drop i list)) ≡ all (map (item_always b) list) → false ≡ always body b
+  always_missed i x lt at h so_far =
+      let here : all (map (item_always b) list) ≡ false = sym so_far ∙ at_drop_more (λ xs. all (map (item_always b) xs)) list i x lt
+      ∙ ap (λ (y : Item). always y.body b && all (map (item_always b) (drop (i + 1) list))) (sym at) ∙ and_first (always x.body b) _ h in
+      sym (always_choice ∙ and_first (all (map (item_always b) list)) _ here)
+
+  pub always_more : (i : ℕ) (x : Item) → i < length list → x ≡ get_or list i x → always x.body b ≡ true →
+      all (map (item_always b) (drop i list)) ≡ all (map (item_always b) list) → all (map (item_always b) (drop (i + 1) list)) ≡ all (map (item_always b) list)
+  always_more i x lt at h so_far =
+      sym (at_drop_more (λ xs. all (map (item_always b) xs)) list i x lt
+      ∙ ap (λ (y : Item). always y.body b && all (map (item_always b) (drop (i + 1) list))) (sym at) ∙ and_second (always x.body b) _ h) ∙ so_far
+
+  module _ (i : ℕ) (past_end : length list ≤ i) (so_far : all (map (item_always b) (drop i list)) ≡ all (map (item_always b) list)) where
+    always_rest : always body b ≡ (always other b || (not has_default && covers selector (flat_map (λ (i : Item). i.labels) list)))
+    always_rest = always_choice ∙ and_second (all (map (item_always b) list)) _ (sym so_far ∙ ap (λ xs. all (map (item_always b) xs)) (drop_all i list past_end))
+
+    pub always_default : always other b ≡ true → true ≡ always body b
+    always_default h = sym (always_rest ∙ or_first (always other b) _ h)
+
+    pub always_covered : (r : Bool) → always other b ≡ false → has_default ≡ false → r ≡ covers selector (flat_map (λ (i : Item). i.labels) list) → r ≡ always body b
+    always_covered r h none e =
+        e ∙ sym (always_rest ∙ or_second (always other b) _ h ∙ ap (λ d. not d && covers selector (flat_map (λ (i : Item). i.labels) list)) none)
+
+    pub always_open : always other b ≡ false → has_default ≡ true → false ≡ always body b
+    always_open h some = sym (always_rest ∙ or_second (always other b) _ h ∙ ap (λ d. not d && covers selector (flat_map (λ (i : Item). i.labels) list)) some)
+
+  needs_choice : needs body b ≡ (reads selector b || (any (map (item_needs b) list) || needs other b))
+  needs_choice =
+      ap (λ (s : Stmt). needs s b) is ∙ needs-Choice site selector items other has_default b
+      ∙ ap (λ xs. reads selector b || (any (map (item_needs b) xs) || needs other b)) (sym listed)
+
+  pub needs_selector : reads selector b ≡ true → true ≡ needs body b
+  needs_selector h = sym (needs_choice ∙ or_first (reads selector b) _ h)
+
+  module _ (unread : reads selector b ≡ false) (i : ℕ) (so_far : any (map (item_needs b) (drop i list)) ≡ any (map (item_needs b) list)) where
+    module _ (x : Item) (ls : List Label) (lt : i < length list) (at : x ≡ get_or list i x) (labels : ls ≡ x.labels) where
+      one_more : any (map (item_needs b) (drop i list)) ≡ (item_needs b x || any (map (item_needs b) (drop (i + 1) list)))
+      one_more = at_drop_more (λ xs. any (map (item_needs b) xs)) list i x lt ∙ ap (λ y. item_needs b y || any (map (item_needs b) (drop (i + 1) list))) (sym at)
+
+      found : item_needs b x ≡ true → true ≡ needs body b
+      found h =
+          let here : any (map (item_needs b) list) ≡ true = sym so_far ∙ one_more ∙ or_first (item_needs b x) _ h in
+          sym (needs_choice ∙ or_second (reads selector b) _ unread ∙ or_first (any (map (item_needs b) list)) _ here)
+
+      pub needs_label : labels_read ls b ≡ true → true ≡ needs body b
+      needs_label h = found (or_first (labels_read x.labels b) _ (ap (λ l. labels_read l b) (sym labels) ∙ h))
+
+      pub needs_item : labels_read ls b ≡ false → needs x.body b ≡ true → true ≡ needs body b
+      needs_item h k = found (or_second (labels_read x.labels b) _ (ap (λ l. labels_read l b) (sym labels) ∙ h) ∙ k)
+
+      pub needs_more : labels_read ls b ≡ false → needs x.body b ≡ false → any (map (item_needs b) (drop (i + 1) list)) ≡ any (map (item_needs b) list)
+      needs_more h k =
+          sym (one_more ∙ or_second (item_needs b x) _ (or_second (labels_read x.labels b) _ (ap (λ l. labels_read l b) (sym labels) ∙ h) ∙ k)) ∙ so_far
+
+    pub needs_default : length list ≤ i → needs body b ≡ needs other b
+    needs_default past_end =
+        needs_choice ∙ or_second (reads selector b) _ unread
+        ∙ or_second (any (map (item_needs b) list)) _ (sym so_far ∙ ap (λ xs. any (map (item_needs b) xs)) (drop_all i list past_end))

@@ -17,7 +17,7 @@ use Rattle.design_core.proofs.Truth.{or_left, or_right}
 use Rattle.bit_exprs.proofs.Performing.{length-perform, perform-append}
 use Rattle.design_core.proofs.Effects.{untouched, same_length, waits}
 use Rattle.design_core.proofs.ResetLaws.{SameInputs}
-use Rattle.design_core.proofs.Settling.{of_bodies, some_among, some-Contains}
+use Rattle.design_core.proofs.Settling.{of_bodies, bodies_within, some_among, some-Contains}
 use Rattle.event_order.specs.States.{State, woken}
 use Rattle.event_order.specs.Cycles.{is_reset}
 use Rattle.event_order.specs.Ready.{Stable}
@@ -103,7 +103,7 @@ flag_other ps v w flags k j ne = get_or-set_other (woken ps v w flags) k j false
 
 module _ (d : Design) (order : List ℕ) (legal : IsLegal d order) where
   pub fits : (k : ℕ) → k < length d.processes → is_clocked (process_at d k).kind ≡ false → Fits (is_given d) (process_at d k).body
-  fits k lt comb = of_bodies d order legal (Fits (is_given d)) (fits_each (is_given d) (is_given d) (bodies d order) (λ b g. g) legal.placed)
+  fits k lt comb = of_bodies d order legal (Fits (is_given d)) (fits_each (is_given d) (is_given d) (bodies d order) (length d.bits) (length d.sites) (bodies_within d order legal) (λ b g. g) legal.placed)
       (process_at d k) (k, lt, get_or_default d.processes k _ _ lt) comb
 
   -- a process that isn't woken by a change leaves the new values too, if no bit that it drives changed

@@ -4,13 +4,14 @@ use Rattle.std.specs.Prelude.{All}
 use Rattle.std.proofs.lemmas.List.{append-nil, length-append, ext_get_or, length-map, get_or-map}
 use Rattle.std.proofs.lemmas.List.Elements.{All-nil, All-append}
 use Rattle.std.proofs.lemmas.Bool.{cases_Bool, eq-eqb}
-use Rattle.design_core.specs.declared.flat.Stmt.{Stmt, Row_of-Stmt, end_of-Stmt, more_of-Stmt}
-use Rattle.design_core.specs.declared.flat.Stmt.TheVariants.{Assign, Branch', Block'}
+use Rattle.design_core.specs.declared.flat.Stmt.{Stmt, Row_of-Stmt, end_of-Stmt, more_of-Stmt, Row_of-Item, end_of-Item, more_of-Item}
+use Rattle.design_core.specs.declared.flat.Stmt.TheVariants.{Assign, Branch', Block', Choice'}
 use Rattle.design_core.specs.declared.flat.Process.{Process}
 use Rattle.design_core.specs.declared.flat.Design.{Design}
-use Rattle.bit_exprs.specs.Values.{bit_at, value_of}
-use Rattle.design_core.specs.Exec.{past, exec, exec_all}
-use Rattle.design_core.specs.Bounds.{IsWithin, AreWithin}
+use Rattle.bit_exprs.specs.Values.{bit_at, width_of, value_of}
+use Rattle.design_core.specs.Exec.{Effect, past, exec, exec_all, exec_items}
+use Rattle.design_core.specs.Labels.{any_matches}
+use Rattle.design_core.specs.Bounds.{IsWithin, AreWithin, ItemsWithin}
 use Rattle.design_core.specs.Settled.{is_clocked}
 use Rattle.design_core.specs.Legality.{IsLegal, idle, process_at}
 use Rattle.bit_exprs.proofs.Given.{updates_below}
@@ -33,11 +34,20 @@ mutual
   updates_within (Branch' site test p x q y) n m v h =
       by_cond (λ e. UpdatesBelow e.updates n) (nat_eq (value_of test v) 0) (past ((site + 1) ∷ []) (exec_all y v)) (past (site ∷ []) (exec_all x v)) (all_updates_within y n m v h.3) (all_updates_within x n m v h.2)
   updates_within (Block' shape all) n m v h = all_updates_within all n m v h
+  updates_within (Choice' site selector p items q other has_default) n m v h =
+      items_updates_within items site (width_of selector) (value_of selector v) (exec_all other v) n m v h.2 (all_updates_within other n m v h.3)
 
   all_updates_within : {k : _} (all : Row_of-Stmt k) (n m : ℕ) (v : List Bool) → AreWithin all n m → UpdatesBelow (exec_all all v).updates n
   all_updates_within end_of-Stmt n m v h = All-nil (λ (u : ℕ × Bool). u.0 < n)
   all_updates_within (more_of-Stmt s rest) n m v h =
       All-append (λ (u : ℕ × Bool). u.0 < n) (exec s v).updates (exec_all rest (exec s v).values).updates (updates_within s n m v h.0) (all_updates_within rest n m (exec s v).values h.1)
+
+  items_updates_within : {k : _} (items : Row_of-Item k) (site w a : ℕ) (e : Effect) (n m : ℕ) (v : List Bool) → ItemsWithin w items n m → UpdatesBelow e.updates n →
+      UpdatesBelow (exec_items site w a items e v).updates n
+  items_updates_within end_of-Item site w a e n m v h k = k
+  items_updates_within (more_of-Item labels body rest) site w a e n m v h k =
+      by_cond (λ x. UpdatesBelow x.updates n) (any_matches w a v labels) (past (site ∷ []) (exec body v)) (exec_items (suc site) w a rest e v)
+      (updates_within body n m v h.1) (items_updates_within rest (suc site) w a e n m v h.2 k)
 
 -- the values, the flags and what waits, after process k ran
 pub record Ran (d : Design) (k : ℕ) (v flags : List Bool) (us : List (ℕ × Bool)) (v' flags' : List Bool) (us' : List (ℕ × Bool)) : Type 0 where

@@ -3,15 +3,16 @@ use Rattle.std.proofs.Common.{◌≡◌, ℕ, zero, suc, nat_eq, Bool, true, fal
 use Rattle.std.specs.Prelude.{flat_map}
 use Rattle.std.proofs.lemmas.List.{get_or-set_other, get_or-set_same, length-set, get_or_past}
 use Rattle.std.proofs.lemmas.Bool.{cases_eq, cases_lt, cases_Bool}
-use Rattle.design_core.specs.declared.flat.Stmt.{Stmt, Row_of-Stmt, end_of-Stmt, more_of-Stmt}
-use Rattle.design_core.specs.declared.flat.Stmt.TheVariants.{Assign, Branch', Block'}
+use Rattle.design_core.specs.declared.flat.Stmt.{Stmt, Row_of-Stmt, end_of-Stmt, more_of-Stmt, Row_of-Item, end_of-Item, more_of-Item}
+use Rattle.design_core.specs.declared.flat.Stmt.TheVariants.{Assign, Branch', Block', Choice'}
 use Rattle.design_core.specs.declared.flat.Process.{Process}
 use Rattle.design_core.specs.declared.flat.Design.{Design}
 use Rattle.bit_exprs.specs.Updates.{perform, updates_of}
-use Rattle.bit_exprs.specs.Values.{bit_at, value_of}
-use Rattle.design_core.specs.Exec.{exec, exec_all}
-use Rattle.design_core.specs.Drive.{drives, any_drives}
-use Rattle.design_core.specs.Bounds.{AssignsBy, AssignBy}
+use Rattle.bit_exprs.specs.Values.{bit_at, width_of, value_of}
+use Rattle.design_core.specs.Exec.{Effect, exec, exec_all, exec_items}
+use Rattle.design_core.specs.Labels.{any_matches}
+use Rattle.design_core.specs.Drive.{drives, any_drives, items_drive}
+use Rattle.design_core.specs.Bounds.{AssignsBy, AssignBy, ItemsAssignBy}
 use Rattle.design_core.specs.Settled.{is_clocked, clocked_updates}
 use Rattle.design_core.proofs.Truth.{or_false_left, or_false_right}
 use Rattle.bit_exprs.proofs.Performing.{length-perform, perform-append, performed_other, performed_both}
@@ -26,11 +27,19 @@ mutual
   puts_nothing (Branch' site test p x q y) v h =
       by_cond (λ e. e.updates ≡ []) (nat_eq (value_of test v) 0) _ _ (puts_nothing_all y v h.1) (puts_nothing_all x v h.0)
   puts_nothing (Block' shape all) v h = puts_nothing_all all v h
+  puts_nothing (Choice' site selector p items q other has_default) v h =
+      puts_nothing_items items site (width_of selector) (value_of selector v) (exec_all other v) v h.0 (puts_nothing_all other v h.1)
 
   puts_nothing_all : {m : _} (all : Row_of-Stmt m) (v : List Bool) → AssignBy false all → (exec_all all v).updates ≡ []
   puts_nothing_all end_of-Stmt v h = refl
   puts_nothing_all (more_of-Stmt s rest) v h =
       ap (λ us. us ++ (exec_all rest (exec s v).values).updates) (puts_nothing s v h.0) ∙ puts_nothing_all rest _ h.1
+
+  puts_nothing_items : {m : _} (items : Row_of-Item m) (site w a : ℕ) (e : Effect) (v : List Bool) → ItemsAssignBy false items → e.updates ≡ [] →
+      (exec_items site w a items e v).updates ≡ []
+  puts_nothing_items end_of-Item site w a e v h k = k
+  puts_nothing_items (more_of-Item labels body rest) site w a e v h k =
+      by_cond (λ x. x.updates ≡ []) (any_matches w a v labels) _ _ (puts_nothing body v h.0) (puts_nothing_items rest (suc site) w a e v h.1 k)
 
 -- the updates of a clocked process executed on v
 abbrev pub aside : Process → List Bool → List (ℕ × Bool)
@@ -58,12 +67,22 @@ mutual
       by_cond (λ e. bit_at (perform e.updates w) b ≡ bit_at w b) (nat_eq (value_of test v) 0) _ _
       (updates_other_all y v w b (or_false_right (any_drives x b) _ h)) (updates_other_all x v w b (or_false_left _ _ h))
   updates_other (Block' shape all) v w b h = updates_other_all all v w b h
+  updates_other (Choice' site selector p items q other has_default) v w b h =
+      updates_other_items items site (width_of selector) (value_of selector v) (exec_all other v) v w b (or_false_left (items_drive items b) _ h)
+      (updates_other_all other v w b (or_false_right (items_drive items b) _ h))
 
   updates_other_all : {m : _} (all : Row_of-Stmt m) (v w : List Bool) (b : ℕ) → any_drives all b ≡ false → bit_at (perform (exec_all all v).updates w) b ≡ bit_at w b
   updates_other_all end_of-Stmt v w b h = refl
   updates_other_all (more_of-Stmt s rest) v w b h =
       ap (λ x. bit_at x b) (perform-append (exec s v).updates (exec_all rest (exec s v).values).updates w)
       ∙ updates_other_all rest (exec s v).values (perform (exec s v).updates w) b (or_false_right (drives s b) _ h) ∙ updates_other s v w b (or_false_left _ _ h)
+
+  updates_other_items : {m : _} (items : Row_of-Item m) (site width a : ℕ) (e : Effect) (v w : List Bool) (b : ℕ) → items_drive items b ≡ false →
+      bit_at (perform e.updates w) b ≡ bit_at w b → bit_at (perform (exec_items site width a items e v).updates w) b ≡ bit_at w b
+  updates_other_items end_of-Item site width a e v w b h k = k
+  updates_other_items (more_of-Item labels body rest) site width a e v w b h k =
+      by_cond (λ x. bit_at (perform x.updates w) b ≡ bit_at w b) (any_matches width a v labels) _ _
+      (updates_other body v w b (or_false_left _ _ h)) (updates_other_items rest (suc site) width a e v w b (or_false_right (drives body b) _ h) k)
 
 pub aside_other : (p : Process) (v w : List Bool) (b : ℕ) → drives p.body b ≡ false → bit_at (perform (aside p v) w) b ≡ bit_at w b
 aside_other p v w b h = elim (cases_Bool (is_clocked p.kind)) [

@@ -8,6 +8,7 @@ ghost use Rattle.design_core.specs.Exec.{assign, exec};
 ghost use Rattle.event_order.specs.Code.{NamesBelow};
 
 use bit_exprs::forms::{Bit, Expr, Target};
+use cycle_model::choose::items_before;
 use cycle_model::execute::holds;
 use design_core::flat::Stmt;
 use expr_value::{list, value};
@@ -90,6 +91,21 @@ pub fn execute(
                 execute(s, values, waiting)?;
             }
             Ok(())
+        }
+        Stmt::Choice {
+            site: _,
+            selector,
+            items,
+            other,
+            has_default: _,
+        } => {
+            let all = items.as_slice();
+            let before = items_before(selector, all, values);
+            if before < all.len() {
+                execute(&all[before].body, values, waiting)
+            } else {
+                execute(other.get(), values, waiting)
+            }
         }
     }
 }

@@ -1,6 +1,7 @@
 // The phases of a cycle.
 
 ghost use Rattle.std.specs.Prelude.{◌≡◌, ◌<◌, [], map, not, false, All, length, IfOk};
+ghost use Rattle.design_core.specs.Bounds.{IsWithin};
 ghost use Rattle.design_core.specs.Settled.{is_clocked};
 ghost use Rattle.design_core.specs.Legality.{IsLegal};
 ghost use Rattle.event_order.specs.States.{Settling};
@@ -45,6 +46,7 @@ fn begin(
     pending: &mut [bool],
     before: &[bool],
 )
+    requires bodies { All (λ p. IsWithin p.body (length design.now.bits) (length design.now.sites)) design.now.processes }
     requires within { All (λ b. b < length design.now.bits) design.now.inputs }
     requires inputs { length inputs.now ≡ length design.now.inputs }
     requires values { length values.old ≡ length design.now.bits }

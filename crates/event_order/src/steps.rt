@@ -48,6 +48,7 @@ pub fn update(
     waiting: &mut Vec<(Bit, bool)>,
     before: &mut [bool],
 )
+    requires within { All (λ p. IsWithin p.body (length design.now.bits) (length design.now.sites)) design.now.processes }
     requires waiting { UpdatesBelow waiting.old.items (length values.old) }
     requires values { length values.old ≡ length design.now.bits }
     requires pending { length pending.old ≡ length design.now.processes }

@@ -1,5 +1,5 @@
 -- From the settled runs to those in every order.
-use Rattle.std.proofs.Common.{◌≡◌, [], Contains, get_or}
+use Rattle.std.proofs.Common.{◌≡◌, ℕ, List, Contains, get_or}
 use Rattle.design_core.specs.declared.flat.Design.{Design}
 use Rattle.design_core.specs.declared.setup.Setup.{Setup}
 use Rattle.design_core.specs.Legality.{IsLegal}
@@ -12,20 +12,20 @@ use Rattle.cover_points.specs.declared.point.Test.{Test}
 use Rattle.cover_points.specs.declared.point.Test.TheVariants.{Passed}
 use Rattle.cover_points.specs.Points.{points_of, hit_by}
 use Rattle.source_check.specs.Judging.{IsTrueOf}
-use Rattle.elab_flat.proofs.LegalDesigns.{design_is_legal}
+use Rattle.source_check.proofs.Truth.{its_legality}
 use Rattle.event_order.specs.Laws.{SameVerdicts}
 use Rattle.event_order.proofs.Main.{site_verdicts, stimulus_runs}
 use Rattle.every_order.specs.Truth.{IsTrueInEveryOrder, TrueInEveryOrder}
 
-module _ (d : Design) (legal : IsLegal d []) where
+module _ (d : Design) (order : List ℕ) (legal : IsLegal d order) where
   -- the verdicts on a point are the same over both kinds of runs
   same : (setup : Setup) (test : Test) → SameVerdicts d setup (hit_by d test)
-  same setup (Passed site) = site_verdicts d [] legal setup site
+  same setup (Passed site) = site_verdicts d order legal setup site
 
   -- what is told of a point
   here : (cert : Cert) (p : Point) (v : Verdict) → IsTrueOf d cert p v → IsTrueInEveryOrder d cert p v
   here cert p (verdicts.Reached cycle) (c, s, there, name, body, hit, run) =
-      (c, s, there, name, body, ((same cert.setup p.test).hit s cycle).0 hit, stimulus_runs d [] legal cert.setup s hit.fits)
+      (c, s, there, name, body, ((same cert.setup p.test).hit s cycle).0 hit, stimulus_runs d order legal cert.setup s hit.fits)
   here cert p verdicts.Excluded h = (same cert.setup p.test).never.0 h
   here cert p (verdicts.Open cycles) h = ((same cert.setup p.test).within cycles).0 h
 
@@ -35,6 +35,6 @@ module _ (d : Design) (legal : IsLegal d []) where
   told cert c (p, there, name, h) = (p, there, name, here cert p c.verdict h)
 
 pub true_in_every_order : TrueInEveryOrder
-true_in_every_order tree cert claims (d, is, names, all) =
-    let legal : IsLegal d [] = design_is_legal tree cert.setup d is.design in
-    (d, is, stimulus_runs d [] legal cert.setup, names, λ k c lt. told d legal cert (get_or claims k c) (all k c lt))
+true_in_every_order tree cert claims (l, is, names, all) =
+    let legal : IsLegal l.design l.order = its_legality tree cert.setup l is in
+    (l, is, stimulus_runs l.design l.order legal cert.setup, names, λ k c lt. told l.design l.order legal cert (get_or claims k c) (all k c lt))

@@ -4,6 +4,7 @@ use Rattle.vlog_syntax.specs.declared.module.Tree.{Tree}
 use Rattle.design_core.specs.declared.flat.Design.{Design}
 use Rattle.design_core.specs.declared.setup.Setup.{Setup}
 use Rattle.design_core.specs.declared.setup.Stimulus.{Stimulus}
+use Rattle.design_core.specs.Ordered.{Ordered}
 use Rattle.design_core.specs.Runs.{Fits}
 use Rattle.cert_text.specs.declared.cert.Cert.{Cert}
 use Rattle.cert_text.specs.declared.cert.CertClaim.{CertClaim}
@@ -34,9 +35,9 @@ HasRuns d setup = (s : Stimulus) → Fits d setup s → (vs : List (List Bool)) 
 -- The claims are for exactly the points of the text's design, in order, and each is true in every order of processes. The design has runs.
 abbrev pub AreTrueInEveryOrder : Tree → Cert → List Claim → Type 0
 AreTrueInEveryOrder tree cert claims =
-    (d : Design) × IsElaborated tree cert.setup d × HasRuns d cert.setup
-    × (map (λ (c : Claim). c.point) claims ≡ map (λ (p : Point). p.name) (points_of d cert.setup))
-    × All (λ (c : Claim). (p : Point) × Contains (points_of d cert.setup) p × (p.name ≡ c.point) × IsTrueInEveryOrder d cert p c.verdict) claims
+    (l : Ordered) × IsElaborated tree cert.setup l × HasRuns l.design cert.setup
+    × (map (λ (c : Claim). c.point) claims ≡ map (λ (p : Point). p.name) (points_of l.design cert.setup))
+    × All (λ (c : Claim). (p : Point) × Contains (points_of l.design cert.setup) p × (p.name ≡ c.point) × IsTrueInEveryOrder l.design cert p c.verdict) claims
 
 -- what is true of the settled runs is true in every order
 abbrev pub TrueInEveryOrder : Type 0

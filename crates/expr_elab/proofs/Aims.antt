@@ -19,7 +19,7 @@ use Rattle.expr_elab.specs.Formed.{IsGood}
 use Rattle.expr_elab.specs.Selects.{bit_named, bits_named}
 use Rattle.expr_elab.specs.Targets.{bit_part, parts_below, parts_fixed, parts_selected, parts_of, within_limit, target_of}
 use Rattle.expr_elab.proofs.Choosing.{IsChoice}
-use Rattle.expr_elab.proofs.Inside.{IsBelow, vector_bits, here, named_there, AreSo, all_so}
+use Rattle.expr_elab.proofs.Inside.{IsBelow, vector_bits, aim_here, named_there, AreSo, all_so}
 use Rattle.expr_elab.proofs.EveryPart.{every_part}
 use Rattle.expr_elab.proofs.Laws.{picked_good}
 
@@ -35,10 +35,10 @@ limited_parts : (o : Option (List Part)) (x : Target) → and_then within_limit 
 limited_parts None x is = cc
 limited_parts (Some ps) x is = let r = limited ps x is in (ap Some r.0, subst (λ qs. parts_width qs ≤ 128) r.0 r.1)
 
-pub target_parts : (scope : Scope) (t : tree.Target) (x : Target) → target_of scope t ≡ Some x → parts_of scope t ≡ Some x.parts
-target_parts scope t x is = (limited_parts (parts_of scope t) x is).0
+target_parts : (scope : Scope) (variable : Bool) (t : tree.Target) (x : Target) → target_of scope variable t ≡ Some x → parts_of scope variable t ≡ Some x.parts
+target_parts scope variable t x is = (limited_parts (parts_of scope variable t) x is).0
 
-module _ (scope : Scope) (n : ℕ) (within : IsWithin scope n) where
+module _ (scope : Scope) (variable : Bool) (n : ℕ) (within : IsWithin scope n) where
   abbrev Formed : Part → Type 0
   Formed p = PartFormed p n
 
@@ -61,14 +61,14 @@ module _ (scope : Scope) (n : ℕ) (within : IsWithin scope n) where
       by (Some bits) s = All-cons Formed (Bits bits) [] (subst IsWidth (sym s.0) g.0, s.1) (All-nil Formed)
       by None s = below_formed (bit_named (bits_of v) c.window i) named c.window.count
 
-  parts_formed : (t : tree.Target) (ps : List Part) → parts_of scope t ≡ Some ps → All Formed ps
+  parts_formed : (t : tree.Target) (ps : List Part) → parts_of scope variable t ≡ Some ps → All Formed ps
   parts_formed =
-      every_part scope (IsGood scope) (picked_good scope) Formed (λ name v is. vector_bits n v (here scope name v is n within))
-      (λ name v c is g. selected_formed v c (fixed c.index) (here scope name v is n within) g)
+      every_part scope variable (IsGood scope) (picked_good scope) Formed (λ name v is. vector_bits n v (aim_here scope variable name v is n within))
+      (λ name v c is g. selected_formed v c (fixed c.index) (aim_here scope variable name v is n within) g)
 
-  pub target_formed : (t : tree.Target) (x : Target) → target_of scope t ≡ Some x → TargetFormed x n
-  target_formed t x is = (parts_formed t x.parts (target_parts scope t x is), (limited_parts (parts_of scope t) x is).1)
+  pub target_formed : (t : tree.Target) (x : Target) → target_of scope variable t ≡ Some x → TargetFormed x n
+  target_formed t x is = (parts_formed t x.parts (target_parts scope variable t x is), (limited_parts (parts_of scope variable t) x is).1)
 
-pub target_if : (scope : Scope) (t : tree.Target) (o : Option Target) → o ≡ target_of scope t → IfSome o (λ x. (n : ℕ) → IsWithin scope n → TargetFormed x n)
-target_if scope t None is = tt
-target_if scope t (Some x) is = λ n within. target_formed scope n within t x (sym is)
+pub target_if : (scope : Scope) (variable : Bool) (t : tree.Target) (o : Option Target) → o ≡ target_of scope variable t → IfSome o (λ x. (n : ℕ) → IsWithin scope n → TargetFormed x n)
+target_if scope variable t None is = tt
+target_if scope variable t (Some x) is = λ n within. target_formed scope variable n within t x (sym is)

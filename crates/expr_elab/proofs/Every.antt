@@ -1,5 +1,5 @@
 -- What holds of every expression that is built, where it holds of what each form makes.
-use Rattle.std.proofs.Common.{◌≡◌, ℕ, ◌≤◌, List, [], ◌∷◌, map, Option, Some, None, refl, sym, subst}
+use Rattle.std.proofs.Common.{◌≡◌, ℕ, ◌≤◌, true, List, [], ◌∷◌, map, Option, Some, None, refl, sym, ap, subst}
 use Rattle.std.specs.Prelude.{All, IfSome, option_map}
 use Rattle.std.proofs.lemmas.List.Elements.{All-nil, All-cons, All-head, All-tail}
 use Rattle.vlog_syntax.specs.declared.expr.UnaryOp.{UnaryOp}
@@ -20,18 +20,22 @@ use Rattle.expr_elab.specs.declared.built.RowOp.{RowOp}
 use Rattle.expr_elab.specs.declared.built.Row.{Row}
 use Rattle.expr_elab.specs.declared.built.Row.TheVariants.{One}
 use Rattle.expr_elab.specs.Options.{and_then, with_both}
-use Rattle.expr_elab.specs.Vectors.{Scope, vector_of}
+use Rattle.word_core.specs.declared.word.Word.{Word}
+use Rattle.expr_elab.specs.declared.vectors.Meaning.{Meaning}
+use Rattle.expr_elab.specs.declared.vectors.Meaning.TheVariants.{Signal, Integer}
+use Rattle.expr_elab.specs.Vectors.{Scope, meaning_of, vector_in, vector_of}
 use Rattle.bit_exprs.specs.Formed.{IsWidth}
-use Rattle.expr_elab.specs.Numbers.{number_built}
+use Rattle.expr_elab.specs.Numbers.{constant, number_built}
 use Rattle.expr_elab.specs.Operators.{unary_built, row_op, one_more, row_built, chosen, beside, repeated}
 use Rattle.expr_elab.specs.Selects.{choice_of, fixed_count, selected, select_built, whole}
-use Rattle.expr_elab.specs.Elaboration.{concatenated, row_from, part, select_step, operand_step, expr_step, built_of, picked_of, operand_of}
+use Rattle.expr_elab.specs.Elaboration.{concatenated, row_from, named, part, select_step, operand_step, expr_step, built_of, picked_of, operand_of}
 use Rattle.expr_elab.specs.Formed.{OfEach}
 use Rattle.expr_elab.proofs.Choices.{mapped, chained, both_there}
 use Rattle.expr_elab.proofs.Choosing.{fixed_wide, IsChoice, range_is}
 
 pub record Kept (scope : Scope) (G : Built → Type 0) (GRow : Row → Type 0) : Type 0 where
   pub of_number : (text : List ℕ) → IfSome (number_built text) G
+  pub of_integer : (value : Word) → G (constant true value)
   pub of_vector : (name : List ℕ) (v : Vector) → vector_of scope name ≡ Some v → G (whole v)
   pub of_select : (name : List ℕ) (v : Vector) (c : Choice) → vector_of scope name ≡ Some v → IsChoice G c → G (selected v c)
   pub of_unary : (op : UnaryOp) (x : Built) → G x → G (unary_built op x)
@@ -83,6 +87,15 @@ module _ (scope : Scope) (G : Built → Type 0) (GRow : Row → Type 0) (k : Kep
       mapped_told None e = tt
       mapped_told (Some v) e = (name, e)
 
+  named_good : (name : List ℕ) → Good (and_then named (meaning_of scope name))
+  named_good name = by (meaning_of scope name) refl
+    where
+      by : (o : Option Meaning) → meaning_of scope name ≡ o → Good (and_then named o)
+      by None e = tt
+      by (Some (Signal v own)) e = k.of_vector name v (ap (and_then vector_in) e)
+      by (Some (Integer None)) e = tt
+      by (Some (Integer (Some value))) e = k.of_integer value
+
   abbrev GoodPicked : Option Picked → Type 0
   GoodPicked o = IfSome o (OfEach G)
 
@@ -114,7 +127,7 @@ module _ (scope : Scope) (G : Built → Type 0) (GRow : Row → Type 0) (k : Kep
 
   step_good : (y : Layer) → Good (expr_step scope (map-Expr Expr Select Operand (Option Built) (Option Picked) (RowOp × Option Built) (built_of scope) (picked_of scope) (operand_of scope) (bare y)))
   step_good (Expr-F.Number n) = k.of_number n.text
-  step_good (Expr-F.Name x None) = mapped IsHere G whole (λ v h. k.of_vector h.0 v h.1) (vector_of scope x.name) (found x.name)
+  step_good (Expr-F.Name x None) = named_good x.name
   step_good (Expr-F.Name x (Some s)) =
       both_there IsHere (OfEach G) G select_built (λ v p h g. select_built_good v p h g) (vector_of scope x.name) (picked_of scope s.0) (found x.name) s.1
   step_good (Expr-F.Paren at inner) = inner.1

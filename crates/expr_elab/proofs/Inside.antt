@@ -1,5 +1,5 @@
 -- What is made of vectors, numbers and selects is good.
-use Rattle.std.proofs.Common.{◌≡◌, ℕ, zero, suc, ◌+◌, ◌-◌, ◌<◌, ◌≤◌, nat_lt, Bool, true, false, cond, List, [], ◌∷◌, length, Option, Some, None, refl, sym, ap, ◌∙◌, subst, arith}
+use Rattle.std.proofs.Common.{◌≡◌, ℕ, zero, suc, ◌+◌, ◌-◌, ◌<◌, ◌≤◌, nat_lt, Bool, true, false, not, cond, List, [], ◌∷◌, length, Option, Some, None, refl, sym, ap, ◌∙◌, subst, arith}
 use Rattle.std.specs.Prelude.{All, IfSome, slice_get}
 use Rattle.std.proofs.lemmas.List.Elements.{All-nil, All-cons, All-head, All-tail}
 use Rattle.std.specs.Map.{lookup}
@@ -20,7 +20,11 @@ use Rattle.expr_elab.specs.declared.vectors.Vector.{Vector}
 use Rattle.expr_elab.specs.declared.built.Fixed.{Fixed}
 use Rattle.expr_elab.specs.declared.built.Choice.{Choice}
 use Rattle.expr_elab.specs.Options.{and_then, all_there}
-use Rattle.expr_elab.specs.Vectors.{Scope, IsWithin, width_within, vector_width, bits_of, vector_of}
+use Rattle.expr_elab.specs.declared.vectors.Meaning.{Meaning}
+use Rattle.expr_elab.specs.declared.vectors.Meaning.TheVariants.{Signal, Integer}
+use Rattle.expr_elab.specs.declared.vectors.Turn.{Turn}
+use Rattle.expr_elab.specs.Vectors.{Scope, IsWithin, width_within, vector_width, bits_of, end_of, declared_as, inside, meaning_of, vector_in, vector_of}
+use Rattle.expr_elab.specs.Targets.{aim_in, aim_of}
 use Rattle.expr_elab.specs.Numbers.{constant, plain_number, number_built, word_with}
 use Rattle.expr_elab.specs.Formed.{IsGood}
 use Rattle.expr_elab.specs.Selects.{bit_named, bits_named, place_up, place_down, bit_read, joined_to, read_of, select_of, whole}
@@ -52,13 +56,28 @@ vector_bits n v below = (
   listed_all (λ b. b < n) (λ k. v.first + k) 0 (vector_width v) (λ i le lt. omega (arith, lt, below)),
 )
 
-pub found_below : (n : ℕ) (test : List ℕ → Bool) (scope : Scope) → IsWithin scope n → IfSome (lookup test scope) (IsBelow n)
-found_below n test [] h = tt
-found_below n test (e ∷ es) h = by (test e.0) (found_below n test es (All-tail (λ e. IsBelow n e.1) e es h))
+-- its bits are below n
+abbrev pub Ends : ℕ → Meaning → Type 0
+Ends n m = end_of m ≤ n
+
+found_ends : (n : ℕ) (test : List ℕ → Bool) (es : List (List ℕ × Meaning)) → All (λ e. Ends n e.1) es → IfSome (lookup test es) (Ends n)
+found_ends n test [] h = tt
+found_ends n test (e ∷ es) h = by (test e.0) (found_ends n test es (All-tail (λ e. Ends n e.1) e es h))
   where
-    by : (b : Bool) → IfSome (lookup test es) (IsBelow n) → IfSome (cond b (Some e.1) (lookup test es)) (IsBelow n)
-    by true rest = All-head (λ e. IsBelow n e.1) e es h
+    by : (b : Bool) → IfSome (lookup test es) (Ends n) → IfSome (cond b (Some e.1) (lookup test es)) (Ends n)
+    by true rest = All-head (λ e. Ends n e.1) e es h
     by false rest = rest
+
+inside_ends : (n : ℕ) (name : List ℕ) (ts : List Turn) (o : Option Meaning) → IfSome o (Ends n) → IfSome (inside name ts o) (Ends n)
+inside_ends n name [] o h = h
+inside_ends n name (t ∷ ts) o h = inside_ends n name ts (cond (bytes_eq name t.name) (Some (Integer (Some t.value))) o) (by (bytes_eq name t.name))
+  where
+    by : (b : Bool) → IfSome (cond b (Some (Integer (Some t.value))) o) (Ends n)
+    by true = omega arith
+    by false = h
+
+meaning_ends : (scope : Scope) (n : ℕ) (name : List ℕ) → IsWithin scope n → IfSome (meaning_of scope name) (Ends n)
+meaning_ends scope n name h = inside_ends n name scope.turns (declared_as scope name) (found_ends n (λ key. bytes_eq name key) scope.names h)
 
 -- ---- selects with a constant index
 
@@ -113,7 +132,24 @@ module _ (scope : Scope) where
   IsHere v = (n : ℕ) → IsWithin scope n → IsBelow n v
 
   pub here : (name : List ℕ) (v : Vector) → vector_of scope name ≡ Some v → IsHere v
-  here name v is n h = subst (λ o. IfSome o (IsBelow n)) is (found_below n (λ key. bytes_eq name key) scope h)
+  here name v is n h = by (meaning_of scope name) (meaning_ends scope n name h) is
+    where
+      by : (o : Option Meaning) → IfSome o (Ends n) → and_then vector_in o ≡ Some v → IsBelow n v
+      by None ends e = cc
+      by (Some (Signal u own)) ends e = subst (λ o. IfSome o (IsBelow n)) e ends
+      by (Some (Integer value)) ends e = cc
+
+  pub aim_here : (variable : Bool) (name : List ℕ) (v : Vector) → aim_of scope variable name ≡ Some v → IsHere v
+  aim_here variable name v is n h = by (meaning_of scope name) (meaning_ends scope n name h) is
+    where
+      at : (k : Bool) (u : Vector) → IsBelow n u → cond k (Some u) None ≡ Some v → IsBelow n v
+      at true u ends e = subst (λ o. IfSome o (IsBelow n)) e ends
+      at false u ends e = cc
+
+      by : (o : Option Meaning) → IfSome o (Ends n) → and_then (aim_in variable) o ≡ Some v → IsBelow n v
+      by None ends e = cc
+      by (Some (Signal u own)) ends e = at (cond variable own (not own)) u ends e
+      by (Some (Integer value)) ends e = cc
 
   pub whole_good : (v : Vector) → IsHere v → IsGood scope (whole v)
   whole_good v h = record {
@@ -125,7 +161,7 @@ module _ (scope : Scope) where
 
   -- ---- numbers
 
-  constant_good : (signed : Bool) (word : Word) → IsGood scope (constant signed word)
+  pub constant_good : (signed : Bool) (word : Word) → IsGood scope (constant signed word)
   constant_good signed word = record { formed = λ n open'. (word.not_empty, word.at_most); width = refl; sign = refl; wide = (word.not_empty, word.at_most) }
 
   plain_good : (n : Number) → IfSome (plain_number n) (IsGood scope)

@@ -1,10 +1,9 @@
 -- Whatever is built is formed, and has its width and its sign.
-use Rattle.std.proofs.Common.{◌≡◌, ℕ, ◌≤◌, max, true, false, ◌+◌, [], Option, Some, None, refl, sym, ◌∙◌, subst}
+use Rattle.std.proofs.Common.{◌≡◌, ℕ, ◌≤◌, max, true, false, Option, Some, None, refl, sym, ◌∙◌, subst}
 use Rattle.std.specs.Prelude.{IfSome, option_map}
 use Rattle.std.proofs.Math.Nat.{le-max_left, le-max_right, max-le}
 use Rattle.vlog_syntax.specs.declared.expr.Expr.{Expr}
 use Rattle.vlog_syntax.specs.declared.expr.Select.{Select}
-use Rattle.std.proofs.lemmas.List.Elements.{All-nil}
 use Rattle.bit_exprs.specs.declared.forms.Expr as bits
 use Rattle.bit_exprs.specs.Formed.{IsFormed}
 use Rattle.expr_elab.specs.declared.vectors.Vector.{Vector}
@@ -12,17 +11,20 @@ use Rattle.expr_elab.specs.declared.built.Built.{Built}
 use Rattle.expr_elab.specs.declared.built.Picked.{Picked}
 use Rattle.expr_elab.specs.declared.built.Picked.TheVariants.{Bit, Bounds, Counted}
 use Rattle.expr_elab.specs.declared.built.Choice.{Choice}
-use Rattle.expr_elab.specs.Vectors.{Scope, IsWithin, vector_width}
+use Rattle.expr_elab.specs.Vectors.{Scope, IsWithin}
 use Rattle.expr_elab.specs.Numbers.{fixed}
 use Rattle.expr_elab.specs.Operators.{row_op}
 use Rattle.expr_elab.specs.Selects.{selected}
 use Rattle.expr_elab.specs.Elaboration.{built_of, picked_of, at_least, assigned_of}
 use Rattle.expr_elab.specs.Formed.{IsGood, IsClosed, OfEach, AreClosed, IsValue}
 use Rattle.expr_elab.proofs.Steps.{bound, somewhere, proper, unary_good, IsGoodRow, one_more_good, row_good, chosen_good, beside_good, repeated_good}
-use Rattle.expr_elab.proofs.Inside.{IsHere, here, whole_good, number_good, select_good}
+use Rattle.expr_elab.proofs.Inside.{IsHere, here, whole_good, constant_good, number_good, select_good}
 use Rattle.expr_elab.proofs.Choosing.{IsChoice}
 use Rattle.expr_elab.proofs.Pushing.{Fits, brought_fits}
 use Rattle.expr_elab.proofs.Every.{Kept, every_built, each_picked}
+
+clash : true ≡ false → ⊥
+clash e = cc
 
 module _ (scope : Scope) where
   selected_good : (v : Vector) (c : Choice) → IsHere scope v → IsChoice (IsGood scope) c → IsGood scope (selected v c)
@@ -39,6 +41,7 @@ module _ (scope : Scope) where
   goodness : Kept scope (IsGood scope) (IsGoodRow scope)
   goodness = record {
     of_number = number_good scope;
+    of_integer = constant_good scope true;
     of_vector = λ name v is. whole_good scope v (here scope name v is);
     of_select = λ name v c is g. selected_good v c (here scope name v is) g;
     of_unary = unary_good scope;
@@ -82,9 +85,6 @@ module _ (scope : Scope) where
 
   -- ---- constants
 
-  clash : true ≡ false → ⊥
-  clash e = cc
-
   closed : (x : Built) → IsGood scope x → IsClosed x
   closed x g e = g.formed 0 (λ f. absurd (clash (sym e ∙ f)))
 
@@ -101,6 +101,7 @@ module _ (scope : Scope) where
   picked_closed_if s None is = tt
   picked_closed_if s (Some p) is = are_closed p (picked_good s p (sym is))
 
--- a constant that is assigned, in a scope of no names
-pub assigned_closed : (width : ℕ) (e : Expr) (x : bits.Expr) → width ≤ 128 → assigned_of [] width e ≡ Some x → IsFormed x 0
-assigned_closed width e x most is = (subst (λ o. IfSome o (IsValue [] width)) is (assigned_value [] width e most)).formed 0 (All-nil (λ e. e.1.first + vector_width e.1 ≤ 0))
+-- a constant in a context
+pub given_closed : (scope : Scope) (width : ℕ) (x : Built) (e : bits.Expr) → width ≤ 128 → IsGood scope x → x.constant ≡ true → e ≡ at_least width x → IsFormed e 0
+given_closed scope width x e most g closed is =
+    subst (λ e. IsFormed e 0) (sym is) (brought_fits (max width x.width) x.signed 0 (max-le most g.wide.1) x (g.formed 0 (λ f. absurd (clash (sym closed ∙ f)))) g.width g.sign (le-max_right width x.width)).0

@@ -5,6 +5,7 @@ pub mod Values
 pub mod Limits
 pub mod Forms
 pub mod Turns
+pub mod Gathering
 pub mod Parts
 pub mod Making
 pub mod Choices
@@ -15,6 +16,5 @@ pub mod Inside
 pub mod Every
 pub mod EveryPart
 pub mod Laws
-pub mod Reading
 pub mod Aims
-pub mod Naming
+pub mod CaseLaws

@@ -1,6 +1,7 @@
 -- Values of a function one after another, and lists that loops go over.
 use Rattle.std.proofs.Common.{◌≡◌, ℕ, zero, suc, ◌+◌, ◌-◌, ◌<◌, ◌≤◌, List, [], ◌∷◌, ◌++◌, length, Option, Some, None, refl, sym, ap, ◌∙◌, add-one, arith}
-use Rattle.std.specs.Prelude.{option_map, slice_get}
+use Rattle.std.specs.Prelude.{option_map, flat_map, slice_get}
+use Rattle.std.specs.Option.{option_to_list}
 use Rattle.std.proofs.lemmas.List.{append_assoc, append-nil}
 use Rattle.bit_exprs.specs.Values.{listed}
 use Rattle.expr_elab.specs.Options.{all_there}
@@ -49,3 +50,11 @@ module _ {X : Type 0} (f : ℕ → Option X) where
       grows : (o : Option (List X)) → option_map (λ ys. later ++ ys) o ≡ option_map (λ ys. made ++ ys) (option_map (λ xs. x ∷ xs) o)
       grows None = refl
       grows (Some ys) = ap Some (ap (λ zs. zs ++ ys) grown ∙ append_assoc made (x ∷ []) ys)
+
+  -- those that are there
+  pub there_more : (made later all : List X) (k n : ℕ) (o : Option X) → k < n → o ≡ f k → later ≡ made ++ option_to_list o → made ++ flat_map option_to_list (listed f k (n - k)) ≡ all →
+      later ++ flat_map option_to_list (listed f (k + 1) (n - (k + 1))) ≡ all
+  there_more made later all k n o lt is grown h =
+      let rest = flat_map option_to_list (listed f (k + 1) (n - (k + 1))) in
+      ap (λ xs. xs ++ rest) (grown ∙ ap (λ p. made ++ option_to_list p) is) ∙ append_assoc made (option_to_list (f k)) rest
+      ∙ ap (λ xs. made ++ flat_map option_to_list xs) (sym (listed_next f k (n - k) (n - (k + 1)) (omega arith))) ∙ h

@@ -1,5 +1,5 @@
 -- What is made of good expressions by operators is good.
-use Rattle.std.proofs.Common.{◌≡◌, ℕ, ◌+◌, ◌*◌, ◌≤◌, nat_le, Bool, true, false, ◌&&◌, [], ◌∷◌, ◌++◌, Option, Some, None, refl, sym, ap, ◌∙◌, subst, arith}
+use Rattle.std.proofs.Common.{◌≡◌, ℕ, ◌+◌, ◌*◌, ◌≤◌, nat_le, Bool, true, false, ◌&&◌, List, [], ◌∷◌, ◌++◌, Option, Some, None, refl, sym, ap, ◌∙◌, subst, arith}
 use Rattle.std.specs.Prelude.{All, IfSome}
 use Rattle.std.proofs.lemmas.Bool.{leb-true}
 use Rattle.std.proofs.lemmas.List.Elements.{All-nil, All-cons, All-append, All-weaker}
@@ -22,7 +22,8 @@ use Rattle.expr_elab.specs.declared.built.RowOp.{RowOp}
 use Rattle.expr_elab.specs.declared.built.RowOp.TheVariants.{InContext, Compares, Shifts, Logical as LogicalOp, Divides}
 use Rattle.expr_elab.specs.declared.built.Row.{Row}
 use Rattle.expr_elab.specs.declared.built.Row.TheVariants.{One, Logical as LogicalRow}
-use Rattle.expr_elab.specs.Vectors.{Scope, vector_width, IsWithin}
+use Rattle.expr_elab.specs.declared.vectors.Meaning.{Meaning}
+use Rattle.expr_elab.specs.Vectors.{Scope, IsWithin, end_of}
 use Rattle.expr_elab.specs.Contexts.{brought}
 use Rattle.expr_elab.specs.Operators.{kept, reduced, unary_built, common_width, common_sign, joined_in_context, in_context, compared, shifted, row_op, goes_on, one_more, row_built, chosen, alone, joined, beside, repeated}
 use Rattle.expr_elab.specs.Formed.{IsGood}
@@ -80,13 +81,16 @@ proper binary.Or = ((λ w u e. e), (λ w u. refl), (λ a b. refl))
 proper binary.LogicalAnd = tt
 proper binary.LogicalOr = tt
 
+-- some number of bits that names are within
+names_bound : (es : List (List ℕ × Meaning)) → (n : ℕ) × All (λ e. end_of e.1 ≤ n) es
+names_bound [] = (0, All-nil (λ e. end_of e.1 ≤ 0))
+names_bound (e ∷ es) =
+    let r = names_bound es in
+    let n = end_of e.1 + r.0 in (n, All-cons (λ e. end_of e.1 ≤ n) e es (omega arith) (All-weaker (λ x. end_of x.1 ≤ r.0) (λ x. end_of x.1 ≤ n) (λ x h. omega (arith, h)) es r.1))
+
 -- some number of bits that the scope is within
-pub bound : (es : Scope) → (n : ℕ) × IsWithin es n
-bound [] = (0, All-nil (λ e. e.1.first + vector_width e.1 ≤ 0))
-bound (e ∷ es) =
-    let r = bound es in
-    let n = e.1.first + vector_width e.1 + r.0 in
-    (n, All-cons (λ e. e.1.first + vector_width e.1 ≤ n) e es (omega arith) (All-weaker (λ x. x.1.first + vector_width x.1 ≤ r.0) (λ x. x.1.first + vector_width x.1 ≤ n) (λ x h. omega (arith, h)) es r.1))
+pub bound : (scope : Scope) → (n : ℕ) × IsWithin scope n
+bound scope = names_bound scope.names
 
 module _ (scope : Scope) where
   -- ---- on one operand

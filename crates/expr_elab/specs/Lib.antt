@@ -7,3 +7,5 @@ pub mod Formed
 pub mod Selects
 pub mod Elaboration
 pub mod Targets
+pub mod Labels
+pub mod Chosen

@@ -1,7 +1,8 @@
 -- Numbers, and the values of constants (IEEE 1364-2001 clauses 2.5 and 4.1.3).
-use Rattle.std.specs.Prelude.{ℕ, ◌<◌, ◌≤◌, ◌^◌, ◌-◌, nat_le, Bool, true, cond, ◌&&◌, List, [], Option, Some, None, option_map}
+use Rattle.std.specs.Prelude.{ℕ, ◌<◌, ◌≤◌, ◌^◌, ◌-◌, ◌%◌, nat_le, Bool, true, cond, ◌&&◌, List, [], Option, Some, None, option_map}
 use Rattle.std.proofs.Common.{◌⊎◌, inl, inr, refl}
 use Rattle.std.proofs.lemmas.Bool.{cases_lt, ltb-true}
+use Rattle.std.proofs.Math.Nat.{mod-lt}
 use Rattle.word_core.specs.declared.word.Word.{Word}
 use Rattle.word_core.specs.Words.{word_neg}
 use Rattle.vlog_tokens.specs.declared.number.Number.{Number}
@@ -54,3 +55,7 @@ count_within n = cond (nat_le 1 n && nat_le n 128) (Some n) None
 abbrev pub count_of : Fixed → Option ℕ
 count_of (Up n) = count_within n
 count_of (Down n) = None
+
+-- the word of 32 bits that a number is cut to
+abbrev pub integer_word : ℕ → Word
+integer_word n = record { width = 32; bits = n % 2 ^ 32; not_empty = ltb-true 0 32 refl; at_most = ltb-true 31 128 refl; fits = mod-lt n (ltb-true 0 (2 ^ 32) refl) }

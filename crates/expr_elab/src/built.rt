@@ -95,3 +95,18 @@ pub enum BinaryPassing {
     /// It doesn't.
     Ends,
 }
+
+/// A width and a sign to which expressions are brought.
+#[derive(Clone, Copy, Debug, PartialEq, Eq)]
+pub struct Context {
+    pub width: u8,
+    pub signed: bool,
+}
+
+/// A label of a `case` or `casez` at its own width and sign.
+#[derive(Drop)]
+pub struct OwnLabel {
+    pub built: Built,
+    /// The digits that match anything. They are 0 in the value.
+    pub wild: u128,
+}

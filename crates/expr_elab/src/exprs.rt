@@ -7,8 +7,8 @@ ghost use Rattle.expr_elab.specs.Formed.{IsGood, IsValue};
 use crate::built::{Built, Picked, Row};
 use crate::contexts::brought;
 use crate::joining::{
-    bit_there, built_there, chosen_there, more_there, part_there, repeated_there, row_there,
-    select_there, unary_there, whole_there,
+    bit_there, built_there, chosen_there, more_there, named_there, part_there, repeated_there,
+    row_there, select_there, unary_there,
 };
 use crate::numbers::number;
 use crate::operators::{beside, row_op};
@@ -17,7 +17,8 @@ use bit_exprs::forms::Expr;
 use std::alloc::{AllocError, Global};
 use vlog_syntax as syntax;
 
-/// An expression at its own width and sign. None where it isn't built: where a name isn't one of the scope's, a width passes 128, the count of a
+/// An expression at its own width and sign. None where it isn't built: where a name isn't one of the scope's or is an integer outside of its loop, a
+/// width passes 128, the count of a
 /// replication or of a part select or its bounds aren't constant or give no number of bits, bounds are turned, a scalar has a select, a number has
 /// digits that match anything, or `/` or `%` stands. The error is that memory ran out.
 pub fn elaborate(
@@ -38,16 +39,13 @@ fn built(alloc: Global, scope: &Scope, source: &syntax::Expr) -> Result<Option<B
 {
     match source {
         syntax::Expr::Number(n) => Ok(number(n.text.bytes())),
-        syntax::Expr::Name { name, select } => {
-            let vector = scope.get(&name.name);
-            match select {
-                None => whole_there(alloc, vector),
-                Some(select) => {
-                    let picked = picked(alloc, scope, select)?;
-                    select_there(alloc, vector, picked)
-                }
+        syntax::Expr::Name { name, select } => match select {
+            None => named_there(alloc, scope.get(&name.name)),
+            Some(select) => {
+                let picked = picked(alloc, scope, select)?;
+                select_there(alloc, scope.vector(&name.name), picked)
             }
-        }
+        },
         syntax::Expr::Paren { at: _, inner } => built(alloc, scope, inner.get()),
         syntax::Expr::Concat {
             at: _,
@@ -172,8 +170,8 @@ fn wider(a: u8, b: u8) -> u8
     if a < b { b } else { a }
 }
 
-// In a context of at least so many bits.
-fn at_least(alloc: Global, width: u8, x: Built) -> Result<Expr, AllocError>
+/// In a context of at least so many bits.
+pub fn at_least(alloc: Global, width: u8, x: Built) -> Result<Expr, AllocError>
     ensures { IfOk result (λ e. e ≡ at_least width x) }
 {
     let width = wider(width, x.width);

@@ -7,12 +7,13 @@ ghost use Rattle.expr_elab.specs.Options.{and_then, with_both};
 ghost use Rattle.expr_elab.specs.Formed.{IsClosed, AreClosed};
 ghost use Rattle.expr_elab.specs.Operators as spec;
 ghost use Rattle.expr_elab.specs.Selects as selecting;
-ghost use Rattle.expr_elab.specs.Elaboration.{part, part_there};
+ghost use Rattle.expr_elab.specs.Elaboration.{named, part, part_there};
 
 use crate::built::{Built, Picked, Row, RowOp};
+use crate::numbers::constant;
 use crate::operators::{chosen, one_more, repeated, row_built, unary};
 use crate::selects::{fixed_count, select_built, whole};
-use crate::vectors::Vector;
+use crate::vectors::{Meaning, Vector};
 use std::alloc::{AllocError, Global};
 use vlog_syntax as syntax;
 use vlog_syntax::PartKind;
@@ -94,16 +95,29 @@ pub fn built_there(row: Option<Row>) -> Option<Built>
     }
 }
 
-/// A whole vector.
-pub fn whole_there(alloc: Global, vector: Option<Vector>) -> Result<Option<Built>, AllocError>
-    ensures { IfOk result (λ b. b ≡ option_map selecting.whole vector) }
+fn named(alloc: Global, meaning: Meaning) -> Result<Option<Built>, AllocError>
+    ensures { IfOk result (λ b. b ≡ named meaning) }
 {
-    match vector {
-        None => Ok(None),
-        Some(vector) => {
+    match meaning {
+        Meaning::Signal {
+            vector,
+            variable: _,
+        } => {
             let all = whole(alloc, vector)?;
             Ok(Some(all))
         }
+        Meaning::Integer { value: None } => Ok(None),
+        Meaning::Integer { value: Some(value) } => Ok(Some(constant(true, value))),
+    }
+}
+
+/// What a name stands for.
+pub fn named_there(alloc: Global, meaning: Option<Meaning>) -> Result<Option<Built>, AllocError>
+    ensures { IfOk result (λ b. b ≡ and_then named meaning) }
+{
+    match meaning {
+        None => Ok(None),
+        Some(meaning) => named(alloc, meaning),
     }
 }
 

@@ -2,6 +2,9 @@
 #![tactic(auto)]
 
 pub mod built;
+mod cases;
+mod chosen;
+mod constants;
 mod contexts;
 mod exprs;
 mod joining;
@@ -14,6 +17,10 @@ mod targets;
 mod tests;
 pub mod vectors;
 
+pub use cases::{context_of, context_over, labels};
+pub use chosen::selected;
+pub use constants::{constant, given, holds, integer};
+pub use contexts::brought;
 pub use exprs::{assigned, elaborate};
 pub use scope::{Scope, bits, rises, width};
 pub use targets::target;

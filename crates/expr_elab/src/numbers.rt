@@ -5,7 +5,7 @@ ghost use Rattle.expr_elab.specs.Formed.{IsClosed};
 ghost use Rattle.std.specs.List.{list_any};
 ghost use Rattle.vlog_tokens.specs.Bytes.{is_open};
 ghost use Rattle.vlog_tokens.specs.Numbers.{IsWithin};
-ghost use Rattle.expr_elab.specs.Numbers.{plain_number, number_built, constant, fixed_word, fixed, count_within, count_of, zero_bit};
+ghost use Rattle.expr_elab.specs.Numbers.{plain_number, number_built, constant, fixed_word, fixed, count_within, count_of, zero_bit, integer_word};
 
 use crate::built::{Built, Fixed};
 use bit_exprs::forms::Expr;
@@ -13,7 +13,8 @@ use expr_value::value;
 use vlog_tokens::{Number, number_of};
 use word_core::Word;
 
-fn constant(signed: bool, word: Word) -> Built
+/// A word as an expression.
+pub fn constant(signed: bool, word: Word) -> Built
     ensures { result ≡ constant signed word }
 {
     Built {
@@ -104,4 +105,11 @@ pub fn count(fixed: Fixed) -> Option<u8>
         Fixed::Up(count) => count_within(count),
         Fixed::Down(_) => None,
     }
+}
+
+/// The word of 32 bits that a number is cut to.
+pub fn integer_word(number: u128) -> Word
+    ensures { result ≡ integer_word number }
+{
+    Word::make(32, number % (1 << 32))
 }

@@ -9,18 +9,19 @@ ghost use Rattle.expr_elab.specs.Vectors.{bits_of, IsWithin};
 ghost use Rattle.expr_elab.specs.Numbers.{fixed};
 ghost use Rattle.expr_elab.specs.Selects.{bit_named, bits_named};
 ghost use Rattle.expr_elab.specs.Formed.{IsClosed, AreClosed};
-ghost use Rattle.expr_elab.specs.Targets.{bit_part, parts_below, parts_fixed, parts_selected, select_parts, whole_part, parts_of, within_limit, target_of};
+ghost use Rattle.expr_elab.specs.Targets.{aim_of, bit_part, parts_below, parts_fixed, parts_selected, select_parts, whole_part, parts_of, within_limit, target_of};
 
 use crate::built::{Choice, Fixed, Picked};
 use crate::exprs::picked;
 use crate::numbers::fixed;
 use crate::scope::{Scope, bits};
 use crate::selects::{bit_named, bits_named, choice_of};
-use crate::vectors::Vector;
+use crate::vectors::{Meaning, Vector};
 use bit_exprs::forms::{Bit, Part, Target, Window};
 use sqlite_items::Items;
 use std::alloc::{AllocError, Global};
 use vlog_syntax as syntax;
+use word_core::Name;
 
 fn bit_part(alloc: Global, bit: Option<Bit>) -> Result<Part, AllocError>
     ensures { IfOk result (λ p. p ≡ bit_part bit) }
@@ -145,16 +146,33 @@ fn whole_parts(alloc: Global, vector: Option<Vector>) -> Result<Option<Items<Par
     }
 }
 
+// What may be a target.
+fn aim(scope: &Scope, variable: bool, name: &Name) -> Option<Vector>
+    ensures { result ≡ aim_of scope.now variable name.now }
+{
+    match scope.get(name)? {
+        Meaning::Signal {
+            vector,
+            variable: own,
+        } => {
+            let is_one = if variable { own } else { !own };
+            if is_one { Some(vector) } else { None }
+        }
+        Meaning::Integer { value: _ } => None,
+    }
+}
+
 fn parts(
     alloc: Global,
     scope: &Scope,
+    variable: bool,
     source: &syntax::Target,
 ) -> Result<Option<Items<Part>>, AllocError>
-    ensures { IfOk result (λ ps. ps ≡ parts_of scope.now source.now) }
+    ensures { IfOk result (λ ps. ps ≡ parts_of scope.now variable source.now) }
 {
     match source {
         syntax::Target::Name { name, select } => {
-            let vector = scope.get(&name.name);
+            let vector = aim(scope, variable, &name.name);
             match select {
                 None => whole_parts(alloc, vector),
                 Some(select) => {
@@ -166,7 +184,7 @@ fn parts(
         syntax::Target::Concat { at: _, parts: all } => {
             let mut behind = Items::new(alloc);
             for one in all.as_slice() {
-                let Some(more) = parts(alloc, scope, one)? else {
+                let Some(more) = parts(alloc, scope, variable, one)? else {
                     return Ok(None);
                 };
                 behind.append(more)?;
@@ -210,17 +228,18 @@ fn within_limit(parts: Items<Part>) -> Option<Target>
     }
 }
 
-/// A target. None where it isn't built: where a name isn't one of the scope's, it has more than 128 places, or a select of it isn't built. The error
-/// is that memory ran out.
+/// A target of an assignment to variables, or else to nets. None where it isn't built: where a name isn't one of the scope's or none of these, it has
+/// more than 128 places, or a select of it isn't built. The error is that memory ran out.
 pub fn target(
     alloc: Global,
     scope: &Scope,
+    variable: bool,
     source: &syntax::Target,
 ) -> Result<Option<Target>, AllocError>
-    ensures value { IfOk result (λ t. t ≡ target_of scope.now source.now) }
+    ensures value { IfOk result (λ t. t ≡ target_of scope.now variable source.now) }
     ensures formed { IfOk result (λ t. IfSome t (λ t. (n : ℕ) → IsWithin scope.now n → TargetFormed t n)) }
 {
-    let Some(parts) = parts(alloc, scope, source)? else {
+    let Some(parts) = parts(alloc, scope, variable, source)? else {
         return Ok(None);
     };
     let target = within_limit(parts);

@@ -2,7 +2,7 @@
 
 use crate::exprs::elaborate;
 use crate::scope::Scope;
-use crate::vectors::{Range, Vector};
+use crate::vectors::{Meaning, Range, Vector};
 use bit_exprs::forms::{Expr, UnaryOp};
 use expr_value::value;
 use sqlite_items::{Boxed, Items};
@@ -58,7 +58,11 @@ fn leftmost_extension(expr: &Expr) -> u8 {
 fn sum_width(alloc: Global, one: &[u8], zero: &[u8]) -> Result<Option<u8>, AllocError> {
     let mut scope = Scope::new(alloc);
     let range = Some(Range { left: 7, right: 0 });
-    scope.declare(alloc, &Name::make(alloc, b"a")?, Vector { range, first: 0 })?;
+    let meaning = Meaning::Signal {
+        vector: Vector { range, first: 0 },
+        variable: true,
+    };
+    scope.declare(alloc, &Name::make(alloc, b"a")?, meaning)?;
     let sum = row(
         alloc,
         name(alloc, b"a")?,

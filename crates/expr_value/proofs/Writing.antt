@@ -83,9 +83,6 @@ module _ (parts : List Part) (i : ℕ) (p : Part) (lt : i < length parts) (is : 
 pub parts_done : (parts : List Part) (i a : ℕ) (v out total : List Bool) → length parts ≤ i → perform (parts_updates (drop i parts) a v) out ≡ total → out ≡ total
 parts_done parts i a v out total past so_far = sym (ap (λ ps. perform (parts_updates ps a v) out) (drop_all i parts past)) ∙ so_far
 
-pub width_done : (parts : List Part) (i : ℕ) → length parts ≤ i → parts_width (drop i parts) ≡ 0
-width_done parts i past = ap parts_width (drop_all i parts past)
-
 -- ---- formed targets
 
 -- each part that the code finds is formed

@@ -1,22 +1,24 @@
 // module t(input clk, output reg x, output reg y, output z);
-//   wire w;
+//   reg w;
 //   always @(posedge clk) x <= ~y;
 //   always @(posedge clk) y <= ~x;
 //   assign z = ~w;
-//   assign w = ~x;
+//   always @* case (x) y: w = ~x; default: w = ~y; endcase
 // endmodule
 //
 // Its bits in this order: clk 0, x 1, y 2, z 3, w 4.
 
-ghost use Rattle.std.specs.Prelude.{◌≡◌, ◌<◌, [], ◌∷◌, length, IfOk};
-ghost use Rattle.order_tests.specs.Negations.{negation, all_negations};
+ghost use Rattle.std.specs.Prelude.{◌≡◌, [], ◌∷◌, false, length, IfOk};
+ghost use Rattle.order_tests.specs.Negations.{negated, process_of, choice, all_processes};
 
 use bit_exprs::forms::{Bit, Expr, Part, Target, UnaryOp};
-use design_core::flat::{BitInfo, Design, ProcKind, Process, Stmt};
+use design_core::flat::{
+    ArmKind, BitInfo, Design, Item, Label, ProcKind, Process, Site, SiteKind, Stmt,
+};
 use design_core::legal::Legal;
 use sqlite_items::{Boxed, Items};
 use std::alloc::{AllocError, Global};
-use word_core::{Name, Place};
+use word_core::{Name, Place, Word};
 
 fn bits(alloc: Global) -> Result<Items<BitInfo>, AllocError>
     ensures { IfOk result (λ bits. length bits ≡ 5) }
@@ -50,41 +52,84 @@ fn target(alloc: Global, bit: Bit) -> Result<Target, AllocError>
     Ok(Target { parts })
 }
 
-// A process that assigns the negation of `from` to `to`.
-fn process(
-    alloc: Global,
-    kind: ProcKind,
-    delayed: bool,
-    to: Bit,
-    from: Bit,
-) -> Result<Process, AllocError>
-    ensures { IfOk result (λ p. p ≡ negation kind delayed to from) }
+// The negation of `from` assigned to `to`.
+fn negated(alloc: Global, delayed: bool, to: Bit, from: Bit) -> Result<Stmt, AllocError>
+    ensures { IfOk result (λ s. s ≡ negated delayed to from) }
 {
     let target = target(alloc, to)?;
     let value = not(alloc, from)?;
-    Ok(Process {
-        at: Place { line: 1, col: 1 },
-        kind,
-        events: None,
-        body: Stmt::Assign {
-            site: None,
-            delayed,
-            target,
-            value,
-        },
+    Ok(Stmt::Assign {
+        site: None,
+        delayed,
+        target,
+        value,
     })
 }
 
-fn processes(alloc: Global) -> Result<Items<Process>, AllocError>
-    ensures { IfOk result (λ ps. ps ≡ all_negations) }
+fn process(kind: ProcKind, body: Stmt) -> Process
+    ensures { result ≡ process_of kind body }
+{
+    Process {
+        at: Place { line: 1, col: 1 },
+        kind,
+        events: None,
+        body,
+    }
+}
+
+fn item(alloc: Global, none: Word) -> Result<Item, AllocError>
+    ensures { IfOk result (λ i. i ≡ record { labels = record { value = Expr.Read (2 ∷ []); wild = none } ∷ []; body = negated false 4 1 }) }
+{
+    let value = Expr::Read(Items::from_slice(alloc, &[2])?);
+    let mut labels = Items::new(alloc);
+    labels.push(Label { value, wild: none })?;
+    let body = negated(alloc, false, 4, 1)?;
+    Ok(Item { labels, body })
+}
+
+fn choice(alloc: Global, none: Word) -> Result<Stmt, AllocError>
+    ensures { IfOk result (λ s. s ≡ choice none) }
+{
+    let selector = Expr::Read(Items::from_slice(alloc, &[1])?);
+    let mut items = Items::new(alloc);
+    items.push(item(alloc, none)?)?;
+    let other = Boxed::new(alloc, negated(alloc, false, 4, 2)?)?;
+    Ok(Stmt::Choice {
+        site: 0,
+        selector,
+        items,
+        other,
+        has_default: true,
+    })
+}
+
+fn processes(alloc: Global, none: Word) -> Result<Items<Process>, AllocError>
+    ensures { IfOk result (λ ps. ps ≡ all_processes none) }
 {
     let clocked = ProcKind::Clocked { reset: None };
     let mut processes = Items::new(alloc);
-    processes.push(process(alloc, clocked, true, 1, 2)?)?;
-    processes.push(process(alloc, clocked, true, 2, 1)?)?;
-    processes.push(process(alloc, ProcKind::Comb, false, 3, 4)?)?;
-    processes.push(process(alloc, ProcKind::Comb, false, 4, 1)?)?;
+    processes.push(process(clocked, negated(alloc, true, 1, 2)?))?;
+    processes.push(process(clocked, negated(alloc, true, 2, 1)?))?;
+    processes.push(process(ProcKind::Comb, negated(alloc, false, 3, 4)?))?;
+    processes.push(process(ProcKind::Comb, choice(alloc, none)?))?;
     Ok(processes)
+}
+
+fn arm(alloc: Global, arm: ArmKind) -> Result<Site, AllocError> {
+    Ok(Site {
+        scope: Name::make(alloc, b"t")?,
+        kind: SiteKind::Arm { arm },
+        ordinal: 1,
+    })
+}
+
+fn sites(alloc: Global) -> Result<Items<Site>, AllocError>
+    ensures { IfOk result (λ sites. length sites ≡ 2) }
+{
+    let mut sites = Items::new(alloc);
+    sites.push(arm(alloc, ArmKind::Item { number: 1 })?)?;
+    sites.push(arm(alloc, ArmKind::Default)?)?;
+    Ok(sites)
 }
 
 /// The design above.
@@ -95,7 +140,8 @@ pub fn legal(alloc: Global) -> Result<Legal, AllocError>
 {
     let bits = bits(alloc)?;
     let registers = Items::from_slice(alloc, &[1, 2])?;
-    let processes = processes(alloc)?;
+    let processes = processes(alloc, Word::make(1, 0))?;
+    let sites = sites(alloc)?;
     let order = Items::from_slice(alloc, &[3, 2])?;
     let design = Design {
         bits,
@@ -104,7 +150,7 @@ pub fn legal(alloc: Global) -> Result<Legal, AllocError>
         clock: 0,
         registers,
         processes,
-        sites: Items::new(alloc),
+        sites,
     };
     Ok(Legal::make(design, order))
 }

@@ -40,3 +40,16 @@ fn settles(rt: HostRuntime) -> Result<(), Fail> {
     assert!(rt; settles_by(alloc, 8589934592, 7)?);
     Ok(())
 }
+
+// Where x and y differ, w is the negation of y, so z is y, and each register takes the value that it has. No wire changes once it was run.
+#[test]
+fn takes_the_default(rt: HostRuntime) -> Result<(), Fail> {
+    let alloc = rt.alloc();
+    let legal = legal(alloc)?;
+    let mut sim = EventSim::make(alloc, &legal, &[false, true])?;
+    let first = cycle(alloc, &mut sim, 0)?;
+    let second = cycle(alloc, &mut sim, 0)?;
+    assert!(rt; first == (false, true, true, 5));
+    assert!(rt; second == (false, true, true, 3));
+    Ok(())
+}

@@ -18,7 +18,7 @@ use Rattle.bit_exprs.specs.Named.{among}
 use Rattle.design_core.proofs.Truth.{either_way}
 use Rattle.bit_exprs.proofs.Performing.{length-perform}
 use Rattle.design_core.proofs.Updates.{bit_performed}
-use Rattle.design_core.proofs.Settling.{settles, of_bodies, to_bodies, started, done, registers_put, among_some, some_among, Contains-some, some-Contains}
+use Rattle.design_core.proofs.Settling.{settles, of_bodies, to_bodies, bodies_within, started, done, registers_put, among_some, some_among, Contains-some, some-Contains}
 use Rattle.design_core.proofs.OneSettling.{settles_at}
 use Rattle.aig_core.specs.Graph.{Graph, leaf_count, IsLiteral, value_of}
 use Rattle.aig_core.proofs.Values.{Extends-refl, leaf_count-Extends, value_of-one}
@@ -231,7 +231,7 @@ module _ (d : Design) (order : List ℕ) (legal : IsLegal d order) (held line : 
         ∙ ap (among passed) (get_or_from_slice_get sites k site 0 at)
 
   passed_is : passes ≡ flat_map (λ s. (exec s v).marks) (bodies d order)
-  passed_is = (settles (is_given d) (bodies d order) start legal.placed).marks
+  passed_is = (settles (is_given d) (bodies d order) start (length d.bits) (length d.sites) (bodies_within d order legal) legal.placed).marks
 
   from_passed : (site : ℕ) → Contains passes site → Hit d v site
   from_passed site c =

@@ -3,12 +3,13 @@ use Rattle.std.proofs.Common.{◌≡◌, ℕ, ◌+◌, ◌*◌, ◌^◌, ◌<◌
 use Rattle.std.specs.Prelude.{IfSome, Some, None, Option, Contains}
 use Rattle.std.proofs.lemmas.List.Elements.{All-weaker, All-map, All-set, All-replicate}
 use Rattle.std.proofs.lemmas.List.{length-set, length-replicate}
-use Rattle.design_core.specs.declared.flat.Stmt.{Stmt, Row_of-Stmt, end_of-Stmt, more_of-Stmt}
-use Rattle.design_core.specs.declared.flat.Stmt.TheVariants.{Assign, Branch', Block'}
+use Rattle.design_core.specs.declared.flat.Stmt.{Stmt, Row_of-Stmt, end_of-Stmt, more_of-Stmt, Row_of-Item, end_of-Item, more_of-Item}
+use Rattle.design_core.specs.declared.flat.Stmt.TheVariants.{Assign, Branch', Block', Choice'}
 use Rattle.design_core.specs.declared.flat.Process.{Process}
 use Rattle.design_core.specs.declared.flat.Reset.{Reset}
 use Rattle.design_core.specs.declared.flat.Design.{Design}
-use Rattle.design_core.specs.Bounds.{IsWithin, AreWithin}
+use Rattle.design_core.specs.Bounds.{IsWithin, AreWithin, ItemsWithin}
+use Rattle.bit_exprs.specs.Values.{width_of}
 use Rattle.design_core.specs.Settled.{reset_of}
 use Rattle.design_core.specs.Legality.{IsLegal}
 use Rattle.design_core.specs.Resets.{HasReset}
@@ -68,10 +69,16 @@ mutual
       site_more (Some s) k = omega (arith, k, le)
   within_more (Branch' site test p a q b) n m m' le h = (omega (arith, h.0, le), h.1, all_within_more a n m m' le h.2, all_within_more b n m m' le h.3)
   within_more (Block' shape all) n m m' le h = all_within_more all n m m' le h
+  within_more (Choice' site selector p items q other has_default) n m m' le h =
+      (omega (arith, h.0, le), h.1, items_within_more (width_of selector) items n m m' le h.2, all_within_more other n m m' le h.3)
 
   all_within_more : {k : _} (all : Row_of-Stmt k) (n m m' : ℕ) → m ≤ m' → AreWithin all n m → AreWithin all n m'
   all_within_more end_of-Stmt n m m' le h = tt
   all_within_more (more_of-Stmt s rest) n m m' le h = (within_more s n m m' le h.0, all_within_more rest n m m' le h.1)
+
+  items_within_more : {k : _} (w : ℕ) (items : Row_of-Item k) (n m m' : ℕ) → m ≤ m' → ItemsWithin w items n m → ItemsWithin w items n m'
+  items_within_more w end_of-Item n m m' le h = tt
+  items_within_more w (more_of-Item labels body rest) n m m' le h = (h.0, within_more body n m m' le h.1, items_within_more w rest n m m' le h.2)
 
 pub processes_within : (d : Design) (order : List ℕ) (n : ℕ) → IsLegal d order → length d.sites < 2 ^ 32 → n ≡ length d.bits → All (λ (p : Process). IsWithin p.body n (2 ^ 32)) d.processes
 processes_within d order n legal few e =

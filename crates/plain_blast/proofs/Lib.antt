@@ -4,10 +4,13 @@ pub mod Chosen
 pub mod Forms
 pub mod Untouched
 pub mod Branching
+pub mod Lengths
+pub mod Choosing
 pub mod Ordering
 pub mod Collecting
 pub mod Literals
 pub mod StepLaws
+pub mod LabelLaws
 pub mod BodyLaws
 pub mod PhaseLaws
 pub mod HitLaws
@@ -16,5 +19,4 @@ pub mod Cycle
 pub mod RunLaws
 pub mod Building
 pub mod Resetting
-pub mod CostLaws
 pub mod ChainLaws

@@ -1,24 +1,25 @@
 -- What the resets do to the literals of registers, and to the values of bits.
-use Rattle.std.proofs.Common.{◌≡◌, ℕ, ◌<◌, Bool, true, false, not, nat_eq, cond, List, [], ◌∷◌, ◌++◌, length, All, get_or, refl, sym, ap, ◌∙◌, subst, inl, inr, true≢false, arith}
+use Rattle.std.proofs.Common.{◌≡◌, ℕ, suc, ◌<◌, Bool, true, false, not, nat_eq, cond, List, [], ◌∷◌, ◌++◌, length, All, get_or, refl, sym, ap, ◌∙◌, subst, inl, inr, true≢false, arith}
 use Rattle.std.specs.Prelude.{Option, Some, None, Contains, zip, slice_get}
 use Rattle.std.proofs.lemmas.List.{get_or-map, ext_get_or}
 use Rattle.std.proofs.lemmas.List.Elements.{All-head, All-tail, All-nil}
 use Rattle.std.proofs.lemmas.Bool.{cases_Bool, or_parts, or_from}
-use Rattle.bit_exprs.specs.Values.{bit_at, value_of}
+use Rattle.bit_exprs.specs.Values.{bit_at, width_of, value_of}
 use Rattle.bit_exprs.specs.Updates.{perform}
 use Rattle.bit_exprs.specs.Named.{among}
 use Rattle.bit_exprs.proofs.Performing.{length-perform, perform-append, gives, performed_other}
 use Rattle.bit_exprs.proofs.Given.{not_given}
-use Rattle.design_core.specs.declared.flat.Stmt.{Stmt, Row_of-Stmt, end_of-Stmt, more_of-Stmt}
-use Rattle.design_core.specs.declared.flat.Stmt.TheVariants.{Assign, Branch', Block'}
+use Rattle.design_core.specs.declared.flat.Stmt.{Stmt, Row_of-Stmt, end_of-Stmt, more_of-Stmt, Row_of-Item, end_of-Item, more_of-Item}
+use Rattle.design_core.specs.declared.flat.Stmt.TheVariants.{Assign, Branch', Block', Choice'}
 use Rattle.design_core.specs.declared.flat.ProcKind.{ProcKind}
 use Rattle.design_core.specs.declared.flat.ProcKind.TheVariants.{Comb, Clocked}
 use Rattle.design_core.specs.declared.flat.Reset.{Reset}
 use Rattle.design_core.specs.declared.flat.Process.{Process}
 use Rattle.design_core.specs.declared.flat.Design.{Design}
-use Rattle.design_core.specs.Exec.{xor, exec, exec_all}
+use Rattle.design_core.specs.Exec.{xor, Effect, exec, exec_all, exec_items}
+use Rattle.design_core.specs.Labels.{any_matches}
 use Rattle.design_core.specs.Bounds.{IsWithin, AssignsBy}
-use Rattle.design_core.specs.Drive.{drives, any_drives}
+use Rattle.design_core.specs.Drive.{drives, any_drives, items_drive}
 use Rattle.design_core.specs.Settled.{is_clocked, reset_of, is_active, updated, reset_updates}
 use Rattle.design_core.specs.Resets.{IsResetBody}
 use Rattle.design_core.specs.Legality.{IsLegal}
@@ -91,6 +92,7 @@ reset_holds : (o : Option Reset) (body : Stmt) (first bits : List ℕ) (g : Grap
 reset_holds None body first bits g leaves n sites u v has within len f b = b
 reset_holds (Some r) (Assign site delayed target value) first bits g leaves n sites u v has within len f b = absurd (has r refl).1
 reset_holds (Some r) (Block' shape all) first bits g leaves n sites u v has within len f b = absurd (has r refl).1
+reset_holds (Some r) (Choice' site selector p items q other has_default) first bits g leaves n sites u v has within len f b = absurd (has r refl).1
 reset_holds (Some r) (Branch' site test p x q y) first bits g leaves n sites u v has within len f b =
     let at = has r refl in
     let lt : r.bit < length first = rw f.long at.0 in
@@ -172,6 +174,13 @@ mutual
   body_spares (Branch' site test p a q c) v b h =
       by_cond (λ e. gives e.updates b ≡ false) (nat_eq (value_of test v) 0) _ _ (row_spares c v b (or_false_right (any_drives a b) _ h)) (row_spares a v b (or_false_left _ _ h))
   body_spares (Block' shape all) v b h = row_spares all v b h
+  body_spares (Choice' site selector p items q other has_default) v b h =
+      items_spare items site (width_of selector) (value_of selector v) (exec_all other v) v b (or_false_left _ _ h) (row_spares other v b (or_false_right (items_drive items b) _ h))
+
+  items_spare : {m : _} (items : Row_of-Item m) (site w a : ℕ) (e : Effect) (v : List Bool) (b : ℕ) → items_drive items b ≡ false → gives e.updates b ≡ false → gives (exec_items site w a items e v).updates b ≡ false
+  items_spare end_of-Item site w a e v b h d = d
+  items_spare (more_of-Item labels body rest) site w a e v b h d =
+      by_cond (λ f. gives f.updates b ≡ false) (any_matches w a v labels) _ _ (body_spares body v b (or_false_left _ _ h)) (items_spare rest (suc site) w a e v b (or_false_right (drives body b) _ h) d)
 
   row_spares : {m : _} (all : Row_of-Stmt m) (v : List Bool) (b : ℕ) → any_drives all b ≡ false → gives (exec_all all v).updates b ≡ false
   row_spares end_of-Stmt v b h = refl

@@ -1,5 +1,5 @@
--- What the gates of an assignment and of a branch are worth.
-use Rattle.std.proofs.Common.{◌≡◌, ℕ, ◌≤◌, Bool, true, false, not, ◌&&◌, nat_eq, List, length, All, refl, ap, ◌∙◌}
+-- What the gates of an assignment and of a fork are worth.
+use Rattle.std.proofs.Common.{◌≡◌, ℕ, ◌≤◌, Bool, not, ◌&&◌, List, length, All, ap, ◌∙◌}
 use Rattle.std.proofs.lemmas.List.Elements.{All-from_recursion, recursion_from_All}
 use Rattle.bit_exprs.specs.declared.forms.Expr.{Expr}
 use Rattle.bit_exprs.specs.declared.forms.Target.{Target}
@@ -12,12 +12,12 @@ use Rattle.aig_core.proofs.AndLaw.{and_gives}
 use Rattle.word_blast.specs.Words.{spelled, word_value, GivesWord}
 use Rattle.word_blast.proofs.BitLaws.{kept_value, kept_literal, kept_leaves}
 use Rattle.word_blast.proofs.Combinators.{GivesBits}
-use Rattle.expr_blast.specs.Circuits.{word_of, test_of}
-use Rattle.expr_blast.proofs.ExprLaws.{word_gives, test_gives}
+use Rattle.expr_blast.specs.Circuits.{word_of}
+use Rattle.expr_blast.proofs.ExprLaws.{word_gives}
 use Rattle.target_blast.specs.Writes.{put_of}
 use Rattle.target_blast.proofs.WriteLaws.{put_gives}
 use Rattle.plain_blast.specs.declared.bodies.Fork.{Fork}
-use Rattle.plain_blast.specs.Plain.{fork_of}
+use Rattle.plain_blast.specs.Plain.{split_of}
 use Rattle.plain_blast.proofs.Existing.{all_kept}
 use Rattle.plain_blast.proofs.Literals.{spelled_kept, same_leaves}
 
@@ -59,38 +59,25 @@ module _ (target : Target) (value : Expr) (bits : List ℕ) (g : Graph) (targets
         ∙ (λ j. perform (updates_of target (word.value leaves len j) (spelled_kept g x.0 leaves bits word.extends len read j)) (spelled_kept g x.0 leaves targets word.extends len old j));
   }
 
--- ---- a branch
+-- ---- a fork
 
--- a fork under a path, whose condition is 0 where z is true
-pub record Forks (g h : Graph) (path : ℕ) (f : Fork) (z : List Bool → Bool) : Type 0 where
+-- a fork under a path, whose first arm is taken where yes is true
+pub record Forks (g h : Graph) (path : ℕ) (f : Fork) (yes : List Bool → Bool) : Type 0 where
   pub extends : Extends g h
   pub well_formed : IsWellFormed h
   pub test_exists : IsLiteral h f.test
   pub then_exists : IsLiteral h f.then_path
   pub else_exists : IsLiteral h f.else_path
-  pub test_is : (leaves : List Bool) → length leaves ≡ leaf_count g → worth h leaves f.test ≡ not (z leaves)
-  pub then_is : (leaves : List Bool) → length leaves ≡ leaf_count g → worth h leaves f.then_path ≡ (worth g leaves path && not (z leaves))
-  pub else_is : (leaves : List Bool) → length leaves ≡ leaf_count g → worth h leaves f.else_path ≡ (worth g leaves path && z leaves)
+  pub test_is : (leaves : List Bool) → length leaves ≡ leaf_count g → worth h leaves f.test ≡ yes leaves
+  pub then_is : (leaves : List Bool) → length leaves ≡ leaf_count g → worth h leaves f.then_path ≡ (worth g leaves path && yes leaves)
+  pub else_is : (leaves : List Bool) → length leaves ≡ leaf_count g → worth h leaves f.else_path ≡ (worth g leaves path && not (yes leaves))
 
-not_not : (b : Bool) → not (not b) ≡ b
-not_not true = refl
-not_not false = refl
-
-module _ (test : Expr) (path : ℕ) (bits : List ℕ) (g : Graph) (well : IsWellFormed g) (read : All (IsLiteral g) bits) (under : IsLiteral g path) (formed : IsFormed test (length bits)) where
-  abbrev is_zero : List Bool → Bool
-  is_zero leaves = nat_eq (value_of test (spelled g leaves bits)) 0
-
-  abbrev c : Graph × ℕ
-  c = test_of test g bits
-
+module _ (g : Graph) (path : ℕ) (c : Graph × ℕ) (yes : List Bool → Bool) (tested : Gives g c.0 c.1 yes) (under : IsLiteral g path) where
   abbrev t : Graph × ℕ
   t = and_of c.0 path c.1
 
   abbrev e : Graph × ℕ
   e = and_of t.0 path (negation c.1)
-
-  tested : Gives g c.0 c.1 (λ leaves. not (is_zero leaves))
-  tested = test_gives test g bits formed well (recursion_from_All (IsLiteral g) bits read)
 
   then_gives : Gives c.0 t.0 t.1 (both c.0 path c.1)
   then_gives = and_gives c.0 path c.1 tested.well_formed (kept_literal tested path under) tested.literal
@@ -105,7 +92,7 @@ module _ (test : Expr) (path : ℕ) (bits : List ℕ) (g : Graph) (well : IsWell
     at_then : length leaves ≡ leaf_count t.0
     at_then = kept_leaves then_gives leaves at_test
 
-    test_then : worth t.0 leaves c.1 ≡ not (is_zero leaves)
+    test_then : worth t.0 leaves c.1 ≡ yes leaves
     test_then = kept_value then_gives c.1 tested.literal leaves at_test ∙ tested.value leaves len
 
     path_test : worth c.0 leaves path ≡ worth g leaves path
@@ -114,17 +101,17 @@ module _ (test : Expr) (path : ℕ) (bits : List ℕ) (g : Graph) (well : IsWell
     path_then : worth t.0 leaves path ≡ worth g leaves path
     path_then = kept_value then_gives path (kept_literal tested path under) leaves at_test ∙ path_test
 
-    test_value : worth e.0 leaves c.1 ≡ not (is_zero leaves)
+    test_value : worth e.0 leaves c.1 ≡ yes leaves
     test_value = kept_value else_gives c.1 (kept_literal then_gives c.1 tested.literal) leaves at_then ∙ test_then
 
-    then_value : worth e.0 leaves t.1 ≡ (worth g leaves path && not (is_zero leaves))
+    then_value : worth e.0 leaves t.1 ≡ (worth g leaves path && yes leaves)
     then_value = kept_value else_gives t.1 then_gives.literal leaves at_then ∙ then_gives.value leaves at_test ∙ (λ j. path_test j && tested.value leaves len j)
 
-    else_value : worth e.0 leaves e.1 ≡ (worth g leaves path && is_zero leaves)
-    else_value = else_gives.value leaves at_then ∙ (λ j. path_then j && (value_of-negation t.0 leaves c.1 ∙ ap not test_then ∙ not_not (is_zero leaves)) j)
+    else_value : worth e.0 leaves e.1 ≡ (worth g leaves path && not (yes leaves))
+    else_value = else_gives.value leaves at_then ∙ (λ j. path_then j && (value_of-negation t.0 leaves c.1 ∙ ap not test_then) j)
 
-  pub fork_gives : Forks g e.0 path (fork_of test path bits g).1 is_zero
-  fork_gives = record {
+  pub split_gives : Forks g e.0 path (split_of path c).1 yes
+  split_gives = record {
     extends = Extends-trans g t.0 e.0 (Extends-trans g c.0 t.0 tested.extends then_gives.extends) else_gives.extends;
     well_formed = else_gives.well_formed;
     test_exists = kept_literal else_gives c.1 (kept_literal then_gives c.1 tested.literal);

@@ -4,4 +4,3 @@ pub mod Exist
 pub mod Choice
 pub mod Chains
 pub mod Bridge
-pub mod Cost

@@ -1,9 +1,10 @@
 -- The circuit of a design: its gates, in the order in which they are made, since a certificate cites their numbers.
-use Rattle.std.specs.Prelude.{ℕ, ◌+◌, ◌*◌, ◌==◌, Bool, true, false, cond, List, [], ◌∷◌, ◌++◌, length, map, Option, Some, None, slice_set, get_or, replicate}
+use Rattle.std.specs.Prelude.{ℕ, suc, ◌+◌, ◌*◌, ◌==◌, Bool, true, false, cond, List, [], ◌∷◌, ◌++◌, length, map, Option, Some, None, slice_set, get_or, replicate}
 use Rattle.bit_exprs.specs.declared.forms.Expr.{Expr}
 use Rattle.bit_exprs.specs.declared.forms.Target.{Target}
-use Rattle.design_core.specs.declared.flat.Stmt.{Stmt, Row_of-Stmt, end_of-Stmt, more_of-Stmt}
-use Rattle.design_core.specs.declared.flat.Stmt.TheVariants.{Assign, Branch', Block'}
+use Rattle.design_core.specs.declared.flat.Stmt.{Stmt, Row_of-Stmt, end_of-Stmt, more_of-Stmt, Row_of-Item, end_of-Item, more_of-Item}
+use Rattle.design_core.specs.declared.flat.Stmt.TheVariants.{Assign, Branch', Block', Choice'}
+use Rattle.design_core.specs.declared.flat.Label.{Label}
 use Rattle.design_core.specs.declared.flat.Process.{Process}
 use Rattle.design_core.specs.declared.flat.Reset.{Reset}
 use Rattle.design_core.specs.declared.flat.BitInfo.{BitInfo}
@@ -11,8 +12,10 @@ use Rattle.design_core.specs.declared.flat.Design.{Design}
 use Rattle.design_core.specs.Settled.{is_clocked, reset_of}
 use Rattle.design_core.specs.Legality.{bodies}
 use Rattle.aig_core.specs.Graph.{Graph, negation, and_of}
+use Rattle.word_core.specs.Words.{bits_of}
 use Rattle.word_blast.specs.Bits.{or_of, mux_of}
-use Rattle.expr_blast.specs.Circuits.{literal_at, word_of, test_of}
+use Rattle.word_blast.specs.Words.{circuit_or, circuit_equal}
+use Rattle.expr_blast.specs.Circuits.{constant, literal_at, word_of, test_of}
 use Rattle.target_blast.specs.Writes.{put_of}
 use Rattle.bit_system.specs.declared.system.StateInfo.{StateInfo}
 use Rattle.bit_system.specs.Machine.{Machine}
@@ -53,13 +56,37 @@ assign_of target value bits g targets =
     let x = word_of value g bits in
     put_of target x.1 bits x.0 targets
 
--- whether a branch under a path takes its first arm, and the paths that its arms are under
-abbrev pub fork_of : Expr → ℕ → List ℕ → Graph → Graph × Fork
-fork_of test path bits g =
-    let c = test_of test g bits in
+-- a fork under a path: whether its first arm is taken, and the paths that its arms are under
+abbrev pub split_of : ℕ → Graph × ℕ → Graph × Fork
+split_of path c =
     let t = and_of c.0 path c.1 in
     let e = and_of t.0 path (negation c.1) in
     (e.0, record { test = c.1; then_path = t.1; else_path = e.1 })
+
+-- that of a branch
+abbrev pub fork_of : Expr → ℕ → List ℕ → Graph → Graph × Fork
+fork_of test path bits g = split_of path (test_of test g bits)
+
+-- whether a label is equal to the selector's word; the digits that match anything are 1 in both words, for which no gate is made
+abbrev pub label_of : Label → List ℕ → List ℕ → Graph → Graph × ℕ
+label_of label selector bits g =
+    let wild = map constant (bits_of label.wild.width label.wild.bits) in
+    let x = word_of label.value g bits in
+    let a = circuit_or x.0 selector wild in
+    let b = circuit_or a.0 x.1 wild in
+    circuit_equal b.0 a.1 b.1
+
+-- x, or whether one of the labels is equal to the selector's word: each label is made and joined before the next
+abbrev pub labels_of : List Label → List ℕ → List ℕ → Graph → ℕ → Graph × ℕ
+labels_of [] selector bits g x = (g, x)
+labels_of (label ∷ labels) selector bits g x =
+    let q = label_of label selector bits g in
+    let r = or_of q.0 x q.1 in
+    labels_of labels selector bits r.0 r.1
+
+-- the fork of an item of a choice
+abbrev pub item_fork_of : List Label → List ℕ → ℕ → List ℕ → Graph → Graph × Fork
+item_fork_of labels selector path bits g = split_of path (labels_of labels selector bits g 0)
 
 abbrev mutual
   -- A body, under a path literal. A clocked one reads the settled literals, another one those that it writes.
@@ -74,10 +101,23 @@ abbrev mutual
       let m = choose_of y.graph f.1.test x.targets y.targets in
       wiring m.0 m.1 y.paths
   run_of (Block' shape all) clocked settled path w = run_all all clocked settled path w
+  run_of (Choice' site selector p items q other has_default) clocked settled path w =
+      let x = word_of selector w.graph (cond clocked settled w.targets) in
+      run_items items (λ last v. run_all other clocked settled last v) site x.1 clocked settled path (wiring x.0 w.targets w.paths)
 
   pub run_all : {m : _} → Row_of-Stmt m → Bool → List ℕ → ℕ → Wiring → Wiring
   run_all end_of-Stmt clocked settled path w = w
   run_all (more_of-Stmt s rest) clocked settled path w = run_all rest clocked settled path (run_of s clocked settled path w)
+
+  -- An item is a branch whose second arm is the items after it, and the default in the end. The selector's word is made before the first one.
+  pub run_items : {m : _} → Row_of-Item m → (ℕ → Wiring → Wiring) → ℕ → List ℕ → Bool → List ℕ → ℕ → Wiring → Wiring
+  run_items end_of-Item default site selector clocked settled path w = default path (wiring w.graph w.targets (past site path w.paths))
+  run_items (more_of-Item labels body rest) default site selector clocked settled path w =
+      let f = item_fork_of labels selector path (cond clocked settled w.targets) w.graph in
+      let x = run_of body clocked settled f.1.then_path (wiring f.0 w.targets (past site f.1.then_path w.paths)) in
+      let y = run_items rest default (suc site) selector clocked settled f.1.else_path (wiring x.graph w.targets x.paths) in
+      let m = choose_of y.graph f.1.test x.targets y.targets in
+      wiring m.0 m.1 y.paths
 
 -- bodies one after another
 abbrev pub run_each : List Stmt → Bool → List ℕ → ℕ → Wiring → Wiring
@@ -110,6 +150,7 @@ reset_by (Some r) (Branch' site test p a q b) first g bits =
     let x = run_all a true first 1 (wiring g bits []) in
     choose_of x.graph (active_of r first) x.targets bits
 reset_by (Some r) (Block' shape all) first g bits = (g, bits)
+reset_by (Some r) (Choice' site selector p items q other has_default) first g bits = (g, bits)
 
 -- the resets of the processes, by number
 abbrev pub resets_of : List Process → List ℕ → Graph → List ℕ → Graph × List ℕ

@@ -51,6 +51,13 @@ fn push_assigned(body: &Stmt, bits: &mut Vec<Bit>) -> Result<(), Memory>
             }
             Ok(())
         }
+        Stmt::Choice { items, other, .. } => {
+            for item in items.as_slice() {
+                push_assigned(&item.body, bits)?;
+            }
+            push_assigned(other.get(), bits)?;
+            Ok(())
+        }
     }
 }
 

@@ -1,13 +1,12 @@
-//! The translation of a legal design into a transition system of and-inverter gates, and what a design costs.
+//! The translation of a legal design into a transition system of and-inverter gates.
 #![tactic(auto)]
 
 mod assigned;
 mod bodies;
-mod costs;
+mod labels;
 mod phases;
 mod plain;
 mod points;
 
 pub use bit_system::Memory;
-pub use costs::cost;
 pub use plain::translate;

@@ -84,7 +84,13 @@ fn reset(
     let mut paths = Vec::new(alloc);
     run(aig, yes.get(), true, first, 1, targets, &mut paths)?;
     let constants = exchanged(alloc, before, targets)?;
-    choose(aig, active(reset, first), &constants, targets)?;
+    choose(
+        aig,
+        active(reset, first),
+        &constants.bits,
+        &constants.literals,
+        targets,
+    )?;
     Ok(())
 }
 

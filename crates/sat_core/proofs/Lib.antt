@@ -18,3 +18,6 @@ pub mod Trails
 pub mod Visits
 pub mod WatchLists
 pub mod WatchPairs
+pub mod Pools
+pub mod Measures
+pub mod Sleepings

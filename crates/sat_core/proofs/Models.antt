@@ -89,16 +89,13 @@ is_false-at (x ∷ xs) (suc k) h =
 
 -- where each clause has a true literal, the values are a model
 pub IsModel-values :
-    (vars n : ℕ) (clauses : List (List Literal)) (assumptions fs : List Literal) (values : List Bool) →
+    (vars : ℕ) (clauses : List (List Literal)) (assumptions fs : List Literal) (values : List Bool) →
     HasGoodVars vars fs → All (λ l. 0 < l.variable) fs → length values ≡ vars → Agree vars fs (valuation values) →
     All (λ c. is_satisfied fs c ≡ true) clauses → take (length assumptions) fs ≡ map negated assumptions →
-    IsModel vars (take n clauses) assumptions values
-IsModel-values vars n clauses assumptions fs values good positive long agree satisfied assumed = record {
+    IsModel vars clauses assumptions values
+IsModel-values vars clauses assumptions fs values good positive long agree satisfied assumed = record {
   long = long;
-  clauses_true = λ k d h.
-      let short = length-take n clauses in
-      let lt : k < n = omega arith in
-      rw (get_or-take n clauses k d lt) (clause-true vars fs (valuation values) good positive agree _ (satisfied k d (omega arith)));
+  clauses_true = λ k d h. clause-true vars fs (valuation values) good positive agree _ (satisfied k d h);
   assumptions_true = λ k d h.
       let lt : k < length assumptions = rw (length-map assumptions unit) at h in
       rw (get_or-map unit assumptions k no_literal d lt) (or-false _ ∙ literal-true vars fs (valuation values) good positive agree (get_or assumptions k no_literal) (false_at k lt));

@@ -1,7 +1,7 @@
 -- How the search stays in order from step to step.
-use Rattle.std.proofs.Common.{◌≡◌, ℕ, ◌<◌, ◌≤◌, List, [], ◌∷◌, ◌++◌, length, take, map, None, refl, arith}
+use Rattle.std.proofs.Common.{◌≡◌, ℕ, ◌<◌, ◌≤◌, List, [], ◌∷◌, ◌++◌, length, take, map, None, refl, sym, ◌∙◌, arith}
 use Rattle.std.specs.Prelude.{All, filter}
-use Rattle.std.proofs.lemmas.List.{take_all, take-take, length_push, length-take, get_or_append_left}
+use Rattle.std.proofs.lemmas.List.{take_all, take-take, length_push, length-take, get_or_append_left, get_or-take}
 use Rattle.cnf_core.specs.Literal.{Literal, negated}
 use Rattle.cnf_core.specs.Lrat.{is_false}
 use Rattle.sat_core.specs.Propagation.{Propagates, IsComplete}
@@ -177,3 +177,31 @@ Searched-learn clauses t w done assumptions seen lits cut to s inside below low 
           (At-cut (λ fs. AreWatched clauses w.pairs fs fs) t (length assumptions) cut s.kept);
       waiting = AreWaiting-learn t.vars clauses t seen lits (length w.pairs) (length assumptions) cut to s.good.good_vars below same many s.waiting;
     }
+
+-- a clause is searched again, and the trail is cut at its first decision
+pub Searched-wake :
+    (clauses : List (List Literal)) (t : Trailed) (w : Watching) (done : ℕ) (assumptions lits : List Literal) (cut : ℕ) →
+    IsSearched clauses t w done assumptions → cut < length t.falses → length assumptions ≤ cut → reason_at t cut ≡ None →
+    ((d : ℕ) → length assumptions ≤ d → d < cut → reason_at t d ≡ None → ⊥) →
+    IsSearched (clauses ++ lits ∷ []) (cut_to cut t) w cut assumptions
+Searched-wake clauses t w done assumptions lits cut s inside low decided first =
+    let fits : cut ≤ length t.falses = omega arith in
+    let front = assumed-cut t.falses (map negated assumptions) (length assumptions) cut low fits s.assumed in
+    let le : cut ≤ cut = omega arith in
+    record {
+      good = Good-more clauses (lits ∷ []) (cut_to cut t) (Good-cut clauses t cut s.good);
+      long = front.0;
+      settled = λ d above h e. absurd (none d above h e);
+      assumed = front.1;
+      known = omega (arith, s.known, length_push clauses lits);
+      listed = AreListed-append clauses (lits ∷ []) w s.known s.listed;
+      within = omega (arith, length-take cut t.falses);
+      watched = rw (take-take cut cut t.falses le) (AreWatched-append clauses (lits ∷ []) w.pairs (take cut t.falses) (take cut t.falses) s.known (s.kept cut low inside decided));
+      kept = λ d above h e. absurd (none d above h e);
+      waiting = λ d above h e. absurd (none d above h e);
+    }
+  where
+    none : (d : ℕ) → length assumptions ≤ d → d < length (take cut t.falses) → reason_at (cut_to cut t) d ≡ None → ⊥
+    none d above h e =
+        let lt : d < cut = omega (arith, h, length-take cut t.falses) in
+        first d above lt (sym (get_or-take cut t.reasons d None lt) ∙ e)

@@ -4,8 +4,10 @@ pub mod Calls
 pub mod Closing
 pub mod Fresh
 pub mod Open
+pub mod Pooled
 pub mod Propagation
 pub mod Search
+pub mod Sleeping
 pub mod Solvers
 pub mod Trailed
 pub mod Watching

@@ -1,14 +1,18 @@
 -- One step of the search.
-use Rattle.std.specs.Prelude.{◌≡◌, ℕ, ◌+◌, ◌*◌, ◌-◌, ◌<◌, ◌≤◌, Bool, true, List, [], ◌∷◌, ◌++◌, take, drop, length, map, filter, All}
+use Rattle.std.specs.Prelude.{◌≡◌, ℕ, ◌+◌, ◌*◌, ◌-◌, ◌<◌, ◌≤◌, Bool, true, List, [], ◌∷◌, ◌++◌, take, drop, length, map, filter, count_by, All}
 use Rattle.cnf_core.specs.Literal.{Literal, negated}
+use Rattle.cnf_core.specs.Lrat.{is_false, HasGoodVars}
 use Rattle.sat_core.specs.Closing.{IsShown}
 use Rattle.sat_core.specs.Fresh.{HasNoRepeats, IsNew, IsSettled}
+use Rattle.sat_core.specs.Pooled.{IsCopied}
+use Rattle.sat_core.specs.Sleeping.{Sleeping, AreMarked, AreSearched}
 use Rattle.sat_core.specs.Trailed.{Trailed, Good, is_satisfied}
 use Rattle.sat_core.specs.Watching.{Watching, AreListed, AreWatched, AreKept, AreWaiting}
 use Rattle.sat_core.specs.declared.analysis.Shown.{Shown}
+use Rattle.sat_core.specs.declared.pool.Pool.{Pool}
 use Rattle.sat_core.specs.declared.search.Search.{Search}
 use Rattle.sat_core.specs.declared.search.Step.{Step}
-use Rattle.sat_core.specs.declared.search.Step.TheVariants.{Learnt, Refuted, Decided, Satisfied}
+use Rattle.sat_core.specs.declared.search.Step.TheVariants.{Learnt, Woken, Refuted, Decided, Satisfied}
 
 -- the clauses that were added, and those learnt since the last call began
 abbrev pub added_in : Search → List (List Literal)
@@ -37,8 +41,21 @@ pub record IsSearched (clauses : List (List Literal)) (t : Trailed) (w : Watchin
   pub kept : AreKept clauses w.pairs t (length assumptions)
   pub waiting : AreWaiting clauses (length w.pairs) t (length assumptions)
 
+-- the search goes on under these assumptions: each clause is searched or asleep
+pub record GoesOn (assumptions : List Literal) (clauses : List (List Literal)) (added : ℕ) (pool : Pool) (sleepers : Sleeping) (assumed : List Literal) (t : Trailed) (w : Watching) (done : ℕ) : Type 0 where
+  pub good : HasGoodVars t.vars assumptions
+  pub assumed_too : (l : Literal) → is_false assumed l ≡ is_false (map negated assumptions) l
+  pub searched : IsSearched pool.clauses t w done assumptions
+  pub copied : IsCopied clauses pool.clauses pool.places.items
+  pub marked : AreMarked assumed clauses added sleepers
+  pub awake : AreSearched clauses sleepers.marks pool.places.items
+
 abbrev pub Searched : List Literal → Search → Type 0
-Searched assumptions s = IsSearched s.clauses s.trail s.watches s.done assumptions
+Searched assumptions s = GoesOn assumptions s.clauses s.added s.pool s.sleepers s.assumed.falses s.trail s.watches s.done
+
+-- how many clauses are asleep
+abbrev pub asleep_in : Search → ℕ
+asleep_in s = count_by (λ b. b) s.sleepers.marks
 
 -- one more clause, which the others show, and which is none of them
 pub record Learns (assumptions : List Literal) (was is : Search) (id : ℕ) (shown : Shown) : Type 0 where
@@ -57,5 +74,6 @@ pub record Ends (assumptions : List Literal) (was is : Search) (id : ℕ) (shown
 abbrev pub IsStep : List Literal → Search → Search → Step → Type 0
 IsStep assumptions was is (Learnt id shown) = Learns assumptions was is id shown
 IsStep assumptions was is (Refuted id shown) = Ends assumptions was is id shown
-IsStep assumptions was is Decided = (is.clauses ≡ was.clauses) × (room_in is < room_in was)
-IsStep assumptions was is Satisfied = (is.clauses ≡ was.clauses) × All (λ c. is_satisfied is.trail.falses c ≡ true) is.clauses
+IsStep assumptions was is Woken = (is.clauses ≡ was.clauses) × (asleep_in is < asleep_in was)
+IsStep assumptions was is Decided = (is.clauses ≡ was.clauses) × (asleep_in is ≡ asleep_in was) × (room_in is < room_in was)
+IsStep assumptions was is Satisfied = (is.clauses ≡ was.clauses) × All (λ c. is_satisfied is.trail.falses c ≡ true) (added_in is)

@@ -27,7 +27,7 @@ pub struct Explained {
 }
 
 /// The number of the clause at a place.
-fn number(clauses: &Clauses, at: usize) -> u64
+pub fn number(clauses: &Clauses, at: usize) -> u64
     requires { at < length clauses.now }
     ensures { result ≡ at + 1 }
 {
@@ -39,7 +39,7 @@ fn number(clauses: &Clauses, at: usize) -> u64
 }
 
 /// Puts the literals of a clause among the seen ones.
-fn mark(seen: &mut Assignment, clause: &[Lit])
+pub fn mark(seen: &mut Assignment, clause: &[Lit])
     requires { All (λ l. l.variable ≤ seen.old.vars) clause.now }
     ensures vars { seen.new.vars ≡ seen.old.vars }
     ensures marked { (l : Literal) → is_false seen.new.falses l
@@ -445,7 +445,7 @@ fn cut_place(
 }
 
 /// The first decision from `floor` on, where `decision` is one.
-fn first_decision(clauses: &Clauses, trail: &Trail, decision: usize, floor: usize) -> usize
+pub fn first_decision(clauses: &Clauses, trail: &Trail, decision: usize, floor: usize) -> usize
     requires good { Good clauses.now trail.now }
     requires within { decision < length trail.now.falses }
     requires order { floor ≤ decision }
@@ -491,4 +491,24 @@ pub fn place_to_go_on(
     } else {
         cut_place(clauses, trail, seen, decision, floor, to)
     }
+}
+
+/// How many levels the seen literals of the trail's first `to` have: parts that begin with a decision or an assumption.
+pub fn count_levels(trail: &Trail, seen: &Assignment, to: usize) -> u32
+    requires good_vars { All (λ l. l.variable ≤ seen.now.vars) trail.now.falses }
+    requires same_length { length trail.now.reasons ≡ length trail.now.falses }
+    requires there { to ≤ length trail.now.falses }
+{
+    let mut levels: u32 = 0;
+    let mut is_counted = false;
+    for at in 0..to {
+        if trail.reason(at).is_none() {
+            is_counted = false;
+        }
+        if !is_counted && seen.is_false(trail.falsified(at)) {
+            levels = levels.saturating_add(1);
+            is_counted = true;
+        }
+    }
+    levels
 }

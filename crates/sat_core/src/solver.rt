@@ -114,7 +114,7 @@ impl<P: ProofSink + Drop> Solver<P> {
         let mut conflicts: u64 = 0;
         loop {
             match self.search.step(assumptions)? {
-                Step::Decided => {}
+                Step::Woken | Step::Decided => {}
                 Step::Satisfied => {
                     let values = self.search.values()?;
                     return Ok(Answer::Model { conflicts, values });

@@ -3,3 +3,4 @@ pub mod OneByOne
 pub mod Placing
 pub mod Systems
 pub mod Truth
+pub mod Once

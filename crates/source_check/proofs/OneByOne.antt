@@ -3,6 +3,7 @@ use Rattle.std.proofs.Common.{◌≡◌, ℕ, ◌+◌, ◌<◌, ◌≤◌, inl, 
 use Rattle.std.proofs.lemmas.List.{at_drop_more, drop_all, take_more, take_all, map-append}
 use Rattle.design_core.specs.declared.flat.Design.{Design}
 use Rattle.design_core.specs.declared.setup.Setup.{Setup}
+use Rattle.design_core.specs.Ordered.{Ordered}
 use Rattle.cert_text.specs.declared.cert.CertClaim.{CertClaim}
 use Rattle.cert_text.specs.declared.claim.Claim.{Claim}
 use Rattle.source_check.specs.declared.error.CheckError.{CheckError}
@@ -88,13 +89,13 @@ module _ (m : Machine) (d : Design) (setup : Setup) (points : List Point) (claim
     )
 
 -- the answer for the claims is the answer for the certificate
-pub judged_by : (tree : Tree) (cert : Cert) (d : Design) (result : Result (List Claim) CheckError) → IsElaborated tree cert.setup d →
-    JudgesClaims (system_of d cert.setup) d cert.setup (points_of d cert.setup) cert.claims result → Judges tree cert result
-judged_by tree cert d (Ok claims) is h = (d, is, h.0, h.1)
-judged_by tree cert d (Err (WrongPoint line)) is h = (d, is, h)
-judged_by tree cert d (Err (Missing point)) is h = (d, is, h)
-judged_by tree cert d (Err (NotHit point)) is h = (d, is, h)
-judged_by tree cert d (Err (Ladder point fault)) is h = (d, is, h)
-judged_by tree cert d (Err (Source error)) is h = absurd h
-judged_by tree cert d (Err (Unread error)) is h = absurd h
-judged_by tree cert d (Err Memory) is h = tt
+pub judged_by : (tree : Tree) (cert : Cert) (l : Ordered) (result : Result (List Claim) CheckError) → IsElaborated tree cert.setup l →
+    JudgesClaims (system_of l cert.setup) l.design cert.setup (points_of l.design cert.setup) cert.claims result → Judges tree cert result
+judged_by tree cert l (Ok claims) is h = (l, is, h.0, h.1)
+judged_by tree cert l (Err (WrongPoint line)) is h = (l, is, h)
+judged_by tree cert l (Err (Missing point)) is h = (l, is, h)
+judged_by tree cert l (Err (NotHit point)) is h = (l, is, h)
+judged_by tree cert l (Err (Ladder point fault)) is h = (l, is, h)
+judged_by tree cert l (Err (Source error)) is h = absurd h
+judged_by tree cert l (Err (Unread error)) is h = absurd h
+judged_by tree cert l (Err Memory) is h = tt

@@ -6,6 +6,7 @@ use Rattle.std.proofs.lemmas.Option.{slice_get-map}
 use Rattle.vlog_syntax.specs.declared.module.Tree.{Tree}
 use Rattle.design_core.specs.declared.flat.Design.{Design}
 use Rattle.design_core.specs.declared.setup.Setup.{Setup}
+use Rattle.design_core.specs.Ordered.{Ordered}
 use Rattle.design_core.specs.Legality.{IsLegal}
 use Rattle.design_core.specs.Verdicts.{NotWithin, Never}
 use Rattle.design_core.proofs.RunLaws.{run_exists}
@@ -26,7 +27,8 @@ use Rattle.cover_points.specs.declared.point.Test.TheVariants.{Passed}
 use Rattle.cover_points.specs.Points.{points_of, site_of, hit_by}
 use Rattle.source_check.specs.Ladders.{state_names, ladder_of}
 use Rattle.source_check.specs.Legal.{IsElaborated}
-use Rattle.elab_flat.proofs.LegalDesigns.{design_is_legal}
+use Rattle.elab_flat.proofs.FlatDesigns.{design_is_flat}
+use Rattle.elab_check.proofs.Kept.{is_legal}
 use Rattle.source_check.specs.Judging.{JudgesClaims, AreTrue, Accepted, Holds, Shows, IsTrueOf, told, verdict_of}
 
 first_in : {X : Type 0} (x : X) (xs : List X) → Contains (x ∷ xs) x
@@ -48,7 +50,7 @@ same_points m d setup k (p ∷ ps) [] a = absurd a
 same_points m d setup k (p ∷ ps) (c ∷ cs) a =
     ap (λ n. n ∷ map (λ (c : Claim). c.point) (map told cs)) a.0 ∙ ap (λ ns. p.name ∷ ns) (same_points m d setup (k + 1) ps cs a.2)
 
-module _ (d : Design) (legal : IsLegal d []) (cert : Cert) (m : Machine) (valid : IsMachine m) (all : List Point) (bridge : Bridge d (sites_of all) m) (plain : cert.setup.cycles ≡ 0) where
+module _ (d : Design) (order : List ℕ) (legal : IsLegal d order) (cert : Cert) (m : Machine) (valid : IsMachine m) (all : List Point) (bridge : Bridge d (sites_of all) m) (plain : cert.setup.cycles ≡ 0) where
   abbrev names : List (List ℕ)
   names = state_names m.states
 
@@ -63,7 +65,7 @@ module _ (d : Design) (legal : IsLegal d []) (cert : Cert) (m : Machine) (valid 
   true_one : (k : ℕ) (p : Point) (c : CertClaim) (body : Body) → slice_get (sites_of all) k ≡ Some (site_of p.test) → c.body ≡ body → Contains cert.claims c → c.point ≡ p.name →
       Holds m d cert.setup k p body → IsTrueOf d cert p (verdict_of body)
   true_one k p c (Reached cycle stimulus) at e there name holds =
-      (c, stimulus, there, name, e, holds, run_exists d [] legal stimulus.start stimulus.lines holds.fits.start.wide holds.fits.wide)
+      (c, stimulus, there, name, e, holds, run_exists d order legal stimulus.start stimulus.lines holds.fits.start.wide holds.fits.wide)
   true_one k p c (Excluded l) at e there name holds = never k p.test l at holds
   true_one k p c (Open cycles l) at e there name holds = within k cycles p.test l at holds
 
@@ -92,15 +94,21 @@ module _ (d : Design) (legal : IsLegal d []) (cert : Cert) (m : Machine) (valid 
       (p, in_points p (first_in p ps), sym a.0, true_one k p c c.body site refl (in_claims c (first_in c cs)) a.0 a.1)
       (true_all (k + 1) ps cs (stand_later k p ps at) (λ q h. in_points q (rest_in p ps q h)) (λ q h. in_claims q (rest_in c cs q h)) a.2)
 
+-- a legal design of a text can be run in its order
+pub its_legality : (tree : Tree) (setup : Setup) (l : Ordered) → IsElaborated tree setup l → IsLegal l.design l.order
+its_legality tree setup l is = is_legal l.design l.order (design_is_flat tree setup l.design is.design) is.kept is.order
+
 -- where the claims are accepted, they are true
 pub true_where_judged :
-    (tree : Tree) (cert : Cert) (d : Design) (m : Machine) → IsMachine m → Bridge d (sites_of (points_of d cert.setup)) m → cert.setup.cycles ≡ 0 → IsElaborated tree cert.setup d →
-    (result : Result (List Claim) CheckError) → JudgesClaims m d cert.setup (points_of d cert.setup) cert.claims result → IfOk result (λ claims. AreTrue tree cert claims)
-true_where_judged tree cert d m valid bridge plain is (Ok claims) h =
+    (tree : Tree) (cert : Cert) (l : Ordered) (m : Machine) → IsMachine m → Bridge l.design (sites_of (points_of l.design cert.setup)) m → cert.setup.cycles ≡ 0 → IsElaborated tree cert.setup l →
+    (result : Result (List Claim) CheckError) → JudgesClaims m l.design cert.setup (points_of l.design cert.setup) cert.claims result → IfOk result (λ claims. AreTrue tree cert claims)
+true_where_judged tree cert l m valid bridge plain is (Ok claims) h =
+    let d = l.design in
+    let order = l.order in
     let all = points_of d cert.setup in
-    let legal = design_is_legal tree cert.setup d is.design in
-    let P : List Claim → Type 0 = λ cs. (map (λ (c : Claim). c.point) cs ≡ map (λ (p : Point). p.name) all) × All (IsTrueClaim d legal cert m valid all bridge plain) cs in
-    let stands : StandFrom d legal cert m valid all bridge plain 0 all = λ j p at. subst (λ n. slice_get all n ≡ Some p) (omega arith) at in
-    let both : P claims = subst P (sym h.1) (same_points m d cert.setup 0 all cert.claims h.0, true_all d legal cert m valid all bridge plain 0 all cert.claims stands (λ p k. k) (λ c k. k) h.0) in
-    (d, is, both.0, both.1)
-true_where_judged tree cert d m valid bridge plain is (Err error) h = tt
+    let legal = its_legality tree cert.setup l is in
+    let P : List Claim → Type 0 = λ cs. (map (λ (c : Claim). c.point) cs ≡ map (λ (p : Point). p.name) all) × All (IsTrueClaim d order legal cert m valid all bridge plain) cs in
+    let stands : StandFrom d order legal cert m valid all bridge plain 0 all = λ j p at. subst (λ n. slice_get all n ≡ Some p) (omega arith) at in
+    let both : P claims = subst P (sym h.1) (same_points m d cert.setup 0 all cert.claims h.0, true_all d order legal cert m valid all bridge plain 0 all cert.claims stands (λ p k. k) (λ c k. k) h.0) in
+    (l, is, both.0, both.1)
+true_where_judged tree cert l m valid bridge plain is (Err error) h = tt

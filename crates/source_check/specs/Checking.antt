@@ -16,7 +16,7 @@ use Rattle.source_check.specs.declared.error.CheckError.{CheckError}
 use Rattle.source_check.specs.declared.error.CheckError.TheVariants.{Source, Cert as Unread, WrongPoint, Missing, NotHit, Ladder, Memory}
 use Rattle.source_check.specs.declared.listing.Front.{Front}
 use Rattle.elab_flat.specs.Designs.{HasDesign, first_place}
-use Rattle.source_check.specs.Legal.{IsElaborated, TooCostly, TooManyPoints}
+use Rattle.source_check.specs.Legal.{IsElaborated, IsIllegal, TooManyPoints}
 use Rattle.cover_points.specs.Points.{points_of}
 use Rattle.source_check.specs.Judging.{Judges, AreTrue}
 
@@ -37,7 +37,7 @@ abbrev pub ReadsText : List ℕ → Result Tree SourceError → Type 0
 ReadsText text (Ok tree) = TextAnswers text (Ok tree)
 ReadsText text (Err (source.Text error)) = TextRefused text error
 ReadsText text (Err (source.NotBuilt at)) = ⊥
-ReadsText text (Err (source.CostOver cost)) = ⊥
+ReadsText text (Err (source.Illegal error)) = ⊥
 ReadsText text (Err (source.Points error)) = ⊥
 ReadsText text (Err source.Memory) = Unit {0}
 
@@ -46,12 +46,12 @@ abbrev pub ReadAndJudged : List ℕ → List ℕ → Result (List Claim) CheckEr
 ReadAndJudged text cert result = (tree : Tree) × (c : Cert) × TextAnswers text (Ok tree) × CertAnswers cert (Ok c) × Judges tree c result
 
 -- The answer of checking. The first that applies: the text has no tree; the certificate can't be read; the text has no design, or one
--- that costs too much or has too many cover points; the first claim that fails; the claims. Nothing where memory ran out.
+-- that isn't legal or has too many cover points; the first claim that fails; the claims. Nothing where memory ran out.
 abbrev pub CheckAnswers : List ℕ → List ℕ → Result (List Claim) CheckError → Type 0
 CheckAnswers text cert (Ok claims) = ReadAndJudged text cert (Ok claims)
 CheckAnswers text cert (Err (Source (source.Text error))) = TextRefused text error
 CheckAnswers text cert (Err (Source (source.NotBuilt at))) = ReadAndJudged text cert (Err (Source (source.NotBuilt at)))
-CheckAnswers text cert (Err (Source (source.CostOver cost))) = ReadAndJudged text cert (Err (Source (source.CostOver cost)))
+CheckAnswers text cert (Err (Source (source.Illegal error))) = ReadAndJudged text cert (Err (Source (source.Illegal error)))
 CheckAnswers text cert (Err (Source (source.Points error))) = ReadAndJudged text cert (Err (Source (source.Points error)))
 CheckAnswers text cert (Err (Source source.Memory)) = ⊥
 CheckAnswers text cert (Err (Unread error)) = (tree : Tree) × TextAnswers text (Ok tree) × CertRefused cert error
@@ -68,9 +68,9 @@ ClaimsAreTrue text cert claims = (tree : Tree) × (c : Cert) × TextAnswers text
 -- the answer of the front: the legal design of the text and its points; or why there is none; nothing where memory ran out
 abbrev pub FrontAnswers : List ℕ → Setup → Result Front SourceError → Type 0
 FrontAnswers text setup (Ok front) =
-    (tree : Tree) × TextAnswers text (Ok tree) × IsElaborated tree setup front.legal.design × (front.points ≡ points_of front.legal.design setup)
+    (tree : Tree) × TextAnswers text (Ok tree) × IsElaborated tree setup front.legal × (front.points ≡ points_of front.legal.design setup)
 FrontAnswers text setup (Err (source.Text error)) = TextRefused text error
 FrontAnswers text setup (Err (source.NotBuilt at)) = (tree : Tree) × TextAnswers text (Ok tree) × (HasDesign tree setup → ⊥) × (at ≡ first_place tree)
-FrontAnswers text setup (Err (source.CostOver cost)) = (tree : Tree) × TextAnswers text (Ok tree) × TooCostly tree setup cost
+FrontAnswers text setup (Err (source.Illegal error)) = (tree : Tree) × TextAnswers text (Ok tree) × IsIllegal tree setup error
 FrontAnswers text setup (Err (source.Points error)) = (tree : Tree) × TextAnswers text (Ok tree) × TooManyPoints tree setup error
 FrontAnswers text setup (Err source.Memory) = Unit {0}

@@ -2,6 +2,7 @@
 use Rattle.std.specs.Prelude.{ℕ, Bool, ◌+◌, ◌≡◌, ◌≢◌, ◌⊎◌, List, [], ◌∷◌, map, All, Contains, Result, Ok, Err}
 use Rattle.vlog_syntax.specs.declared.module.Tree.{Tree}
 use Rattle.design_core.specs.declared.flat.Design.{Design}
+use Rattle.design_core.specs.Ordered.{Ordered}
 use Rattle.design_core.specs.declared.setup.Setup.{Setup}
 use Rattle.design_core.specs.declared.setup.Stimulus.{Stimulus}
 use Rattle.design_core.specs.Runs.{IsRun}
@@ -26,15 +27,15 @@ use Rattle.source_check.specs.declared.error.CheckError.{CheckError}
 use Rattle.source_check.specs.declared.error.CheckError.TheVariants.{Source, Cert as Unread, WrongPoint, Missing, NotHit, Ladder, Memory}
 use Rattle.cover_points.specs.declared.point.Point.{Point}
 use Rattle.elab_flat.specs.Designs.{HasDesign, first_place}
-use Rattle.source_check.specs.Legal.{IsElaborated, TooCostly, TooManyPoints}
+use Rattle.source_check.specs.Legal.{IsElaborated, IsIllegal, TooManyPoints}
 use Rattle.cover_points.specs.Points.{points_of, site_of, hit_by}
 use Rattle.source_check.specs.Ladders.{state_names, ladder_of, LadderRefused}
 
 -- ---- acceptance
 
--- the system of a design, with a hit literal for each of its points, in their order; no process is combinational so far
-abbrev pub system_of : Design → Setup → Machine
-system_of d setup = plain_of d [] (map (λ (p : Point). site_of p.test) (points_of d setup))
+-- the system of a design whose combinational processes have this order, with a hit literal for each of its points, in their order
+abbrev pub system_of : Ordered → Setup → Machine
+system_of l setup = plain_of l.design l.order (map (λ (p : Point). site_of p.test) (points_of l.design setup))
 
 -- the ladder shows that the k-th point isn't hit within this depth
 abbrev pub Shows : Machine → ℕ → Depth → NamedLadder → Type 0
@@ -152,16 +153,16 @@ JudgesClaims m d setup points claims (Err Memory) = Unit {0}
 -- the claims of the certificate fail first in this way, under the text's design
 abbrev pub FailFirst : Tree → Cert → CheckError → Type 0
 FailFirst tree cert fault =
-    (d : Design) × IsElaborated tree cert.setup d × FirstFault (system_of d cert.setup) d cert.setup 0 (points_of d cert.setup) cert.claims fault
+    (l : Ordered) × IsElaborated tree cert.setup l × FirstFault (system_of l cert.setup) l.design cert.setup 0 (points_of l.design cert.setup) cert.claims fault
 
 -- The answer of judging. The claims, where the text has a design and the certificate is accepted for it; the first fault, where it isn't;
--- that the text has no design, or one that costs too much or has too many cover points; nothing where memory ran out.
+-- that the text has no design, or one that isn't legal or has too many cover points; nothing where memory ran out.
 abbrev pub Judges : Tree → Cert → Result (List Claim) CheckError → Type 0
 Judges tree cert (Ok claims) =
-    (d : Design) × IsElaborated tree cert.setup d × Accepted (system_of d cert.setup) d cert.setup 0 (points_of d cert.setup) cert.claims × (claims ≡ map told cert.claims)
+    (l : Ordered) × IsElaborated tree cert.setup l × Accepted (system_of l cert.setup) l.design cert.setup 0 (points_of l.design cert.setup) cert.claims × (claims ≡ map told cert.claims)
 Judges tree cert (Err (Source (source.Text error))) = ⊥
 Judges tree cert (Err (Source (source.NotBuilt at))) = (HasDesign tree cert.setup → ⊥) × (at ≡ first_place tree)
-Judges tree cert (Err (Source (source.CostOver cost))) = TooCostly tree cert.setup cost
+Judges tree cert (Err (Source (source.Illegal error))) = IsIllegal tree cert.setup error
 Judges tree cert (Err (Source (source.Points error))) = TooManyPoints tree cert.setup error
 Judges tree cert (Err (Source source.Memory)) = ⊥
 Judges tree cert (Err (Unread error)) = ⊥
@@ -185,6 +186,6 @@ IsTrueOf d cert p (verdicts.Open cycles) = NotWithin d cert.setup (hit_by d p.te
 -- the claims are for exactly the points of the text's design, in order, and each is true
 abbrev pub AreTrue : Tree → Cert → List Claim → Type 0
 AreTrue tree cert claims =
-    (d : Design) × IsElaborated tree cert.setup d
-    × (map (λ (c : Claim). c.point) claims ≡ map (λ (p : Point). p.name) (points_of d cert.setup))
-    × All (λ (c : Claim). (p : Point) × Contains (points_of d cert.setup) p × (p.name ≡ c.point) × IsTrueOf d cert p c.verdict) claims
+    (l : Ordered) × IsElaborated tree cert.setup l
+    × (map (λ (c : Claim). c.point) claims ≡ map (λ (p : Point). p.name) (points_of l.design cert.setup))
+    × All (λ (c : Claim). (p : Point) × Contains (points_of l.design cert.setup) p × (p.name ≡ c.point) × IsTrueOf l.design cert p c.verdict) claims

@@ -2,6 +2,7 @@
 
 use cert_text::CertError;
 use cover_points::PointError;
+use elab_check::LegalError;
 use elab_flat::FlatError;
 use ladder_check::LadderFault;
 use std::alloc::AllocError;
@@ -15,9 +16,8 @@ pub enum SourceError {
     Text(TextError),
     /// Its tree has no design so far. The place is that of the text's first token.
     NotBuilt { at: Place },
-    /// Its design costs more than 4,194,304, in the measure of a circuit's size that `plain_blast` gives. The
-    /// cost is what it costs, or the greatest u64 where that is less.
-    CostOver { cost: u64 },
+    /// Its design isn't legal: the first rule that it doesn't keep. The fault isn't want of memory.
+    Illegal(LegalError),
     /// Its design has more cover points than there may be. The fault isn't want of memory.
     Points(PointError),
     /// Memory ran out, or the design would have 2^32 sites or more.
@@ -75,6 +75,20 @@ impl From<FlatError> for SourceError {
         match fault {
             FlatError::NotBuilt { at } => SourceError::NotBuilt { at },
             FlatError::Memory => SourceError::Memory,
+        }
+    }
+}
+
+impl From<LegalError> for SourceError {
+    ghost use Rattle.std.specs.Prelude.{◌≡◌};
+    ghost use Rattle.source_check.specs.Faults.{legal_fault};
+
+    ghost from_gives = { λ f e. e ≡ legal_fault f };
+
+    fn from(fault: LegalError) -> SourceError {
+        match fault {
+            LegalError::Memory => SourceError::Memory,
+            fault => SourceError::Illegal(fault),
         }
     }
 }

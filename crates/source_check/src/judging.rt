@@ -235,8 +235,7 @@ fn judge_claims(
 
 /// The system of a legal design, with a hit literal for each of the points.
 fn system_for(alloc: Global, legal: &Legal, points: &[Point]) -> Result<System, AllocError>
-    requires { legal.now.order ≡ [] }
-    ensures exact { IfOk result (λ s. s ≡ plain_of legal.now.design [] (map (λ p. site_of p.test) points.now)) }
+    ensures exact { IfOk result (λ s. s ≡ plain_of legal.now.design legal.now.order (map (λ p. site_of p.test) points.now)) }
     ensures bridge { IfOk result (λ s. Bridge legal.now.design (map (λ p. site_of p.test) points.now) s) }
     ensures valid { IfOk result IsMachine }
 {

@@ -15,7 +15,7 @@ use Rattle.bit_system.specs.declared.ladder.Lemma.{Lemma}
 use Rattle.bit_system.specs.declared.ladder.Ladder.{Ladder}
 use Rattle.bit_system.specs.Machine.{Machine}
 use Rattle.bit_system.specs.Accepted.{LemmaFits, IsShaped}
-use Rattle.elab_flat.specs.Designs.{AreDistinct}
+use Rattle.elab_flat.proofs.BitNames.{AreDistinct}
 use Rattle.source_check.specs.Ladders.{state_names, state_of, lit_of, lemma_of, ladder_of}
 use Rattle.text_prover.specs.Naming.{name_of, named_lit, named_lemma, named_ladder, HasBits}
 

@@ -8,8 +8,6 @@ use Rattle.vlog_modules.specs.Answers.{TextAnswers}
 use Rattle.design_core.specs.declared.flat.Design.{Design}
 use Rattle.design_core.specs.declared.setup.Setup.{Setup}
 use Rattle.design_core.specs.Ordered.{Ordered}
-use Rattle.design_core.specs.Settled.{is_clocked}
-use Rattle.design_core.specs.Legality.{process_at, IsLegal}
 use Rattle.bit_system.specs.Machine.{Machine}
 use Rattle.plain_blast.specs.Plain.{plain_of}
 use Rattle.plain_blast.specs.Bridge.{Bridge}
@@ -24,9 +22,8 @@ use Rattle.cover_points.specs.declared.point.Point.{Point}
 use Rattle.cover_points.specs.Points.{points_of, site_of}
 use Rattle.source_check.specs.Legal.{IsElaborated}
 use Rattle.source_check.specs.Judging.{system_of, Accepted, verdict_of, told}
-use Rattle.elab_flat.proofs.LegalDesigns.{design_is_legal}
 use Rattle.source_check.proofs.Systems.{one_hit_each}
-use Rattle.source_check.proofs.Truth.{sites_of}
+use Rattle.source_check.proofs.Truth.{sites_of, its_legality}
 use Rattle.text_prover.specs.Proving.{setup_of, units_of}
 use Rattle.text_prover.specs.Claims.{IsClaimFor, AreClaimsFor}
 use Rattle.text_prover.specs.Making.{IsMade}
@@ -50,12 +47,15 @@ units_lined effort n (c ∷ cs) = ap (λ (us : List ℕ). units_of effort (verdi
 
 -- ---- the certificate
 
-module _ (text : List ℕ) (tree : Tree) (setup : Setup) (d : Design) (of_text : TextAnswers text (Ok tree)) (is : IsElaborated tree setup d) (built : AreBuilt setup.kinds) (plain : setup ≡ setup_of setup.top setup.clock setup.kinds) where
+module _ (text : List ℕ) (tree : Tree) (setup : Setup) (l : Ordered) (of_text : TextAnswers text (Ok tree)) (is : IsElaborated tree setup l) (built : AreBuilt setup.kinds) (plain : setup ≡ setup_of setup.top setup.clock setup.kinds) where
+  abbrev d : Design
+  d = l.design
+
   abbrev points : List Point
   points = points_of d setup
 
   abbrev m : Machine
-  m = system_of d setup
+  m = system_of l setup
 
   module _ (bridge : Bridge d (sites_of points) m) (effort : ℕ) (few : effort < 2 ^ 63) (claims : List CertClaim) (used : List ℕ) (made : AreClaimsFor m effort points claims used) where
     abbrev cert : Cert
@@ -67,7 +67,7 @@ module _ (text : List ℕ) (tree : Tree) (setup : Setup) (d : Design) (of_text :
         let one : IsClaimFor m k effort (get_or points k p) (get_or claims k c) = made.each k p c within in (
           subst (λ (name : List ℕ). IsPoint (words name)) (sym one.name) (all_named tree setup d is.design is.few (module_name text tree setup d of_text is.design) k p within),
           subst FitsBody (sym one.body)
-              (body_fits m (states_are_named text tree setup d of_text is.design (sites_of points)) (no_prelude d [] (sites_of points)) effort few k one.found one.proved one.fits),
+              (body_fits m (states_are_named text tree setup d of_text is.design l.order (sites_of points)) (no_prelude d l.order (sites_of points)) effort few k one.found one.proved one.fits),
         )
 
     pub cert_fits : FitsButLines cert
@@ -88,24 +88,16 @@ module _ (text : List ℕ) (tree : Tree) (setup : Setup) (d : Design) (of_text :
       of_spelling = reads.given;
       setup = plain;
       accepted = (
-        d,
+        l,
         is,
         accepted_lined m d setup first_line 0 points claims
-            (accepted_made d (design_is_legal tree setup d is.design) setup (ap (λ (s : Setup). s.cycles) plain) bridge (states_distinct text tree setup d of_text is.design (sites_of points)) effort claims used made),
+            (accepted_made l (its_legality tree setup l is) setup (ap (λ (s : Setup). s.cycles) plain) bridge (states_distinct text tree setup d of_text is.design l.order (sites_of points)) effort claims used made),
         refl,
       );
       units = made.units ∙ units_lined effort first_line claims;
     }
 
 -- ---- what the front gives
-
--- a text's design has no combinational processes to put in order
-order_none : (d : Design) (order : List ℕ) → IsLegal d order → IsLegal d [] → order ≡ []
-order_none d [] legal alone = refl
-order_none d (k ∷ ks) legal alone =
-    let there =
-    alone.each k (All-head (λ j. j < length d.processes) k ks legal.named) (All-head (λ j. is_clocked (process_at d j).kind ≡ false) k ks legal.combinational) in
-    absurd (omega (arith, there.1))
 
 -- a system has a point for each site that it is made of
 pub one_each : (legal : Ordered) (points : List Point) (sites : List ℕ) → sites ≡ sites_of points → (system : Machine) → system ≡ plain_of legal.design legal.order sites →
@@ -114,8 +106,8 @@ one_each legal points sites of_points system exact =
     sym (ap (λ (m : Machine). length m.hits) exact ∙ one_hit_each legal.design legal.order sites ∙ ap length of_points ∙ length-map points (λ (p : Point). site_of p.test))
 
 -- the front's points, their sites and the system that is made of them
-module _ (text : List ℕ) (setup : Setup) (built : AreBuilt setup.kinds) (plain : setup ≡ setup_of setup.top setup.clock setup.kinds) (legal : Ordered) (is_legal : IsLegal legal.design legal.order) (points : List Point)
-    (tree : Tree) (of_text : TextAnswers text (Ok tree)) (is : IsElaborated tree setup legal.design) (listed : points ≡ points_of legal.design setup) where
+module _ (text : List ℕ) (setup : Setup) (built : AreBuilt setup.kinds) (plain : setup ≡ setup_of setup.top setup.clock setup.kinds) (legal : Ordered) (points : List Point)
+    (tree : Tree) (of_text : TextAnswers text (Ok tree)) (is : IsElaborated tree setup legal) (listed : points ≡ points_of legal.design setup) where
   pub few : length points ≤ 2 ^ 32
   few = omega (arith, ap length listed, is.few)
 
@@ -123,20 +115,18 @@ module _ (text : List ℕ) (setup : Setup) (built : AreBuilt setup.kinds) (plain
     all_sites : sites ≡ sites_of (points_of legal.design setup)
     all_sites = of_points ∙ ap sites_of listed
 
-    its_system : system ≡ system_of legal.design setup
-    its_system =
-        exact ∙ ap (λ order. plain_of legal.design order sites) (order_none legal.design legal.order is_legal (design_is_legal tree setup legal.design is.design))
-        ∙ ap (plain_of legal.design []) all_sites
+    its_system : system ≡ system_of legal setup
+    its_system = exact ∙ ap (plain_of legal.design legal.order) all_sites
 
     module _ (bridge : Bridge legal.design sites system) (effort : ℕ) (small : effort < 2 ^ 63) (claims : List CertClaim) (used : List ℕ) (made : AreClaimsFor system effort points claims used) where
-      its_bridge : Bridge legal.design (sites_of (points_of legal.design setup)) (system_of legal.design setup)
+      its_bridge : Bridge legal.design (sites_of (points_of legal.design setup)) (system_of legal setup)
       its_bridge = subst (Bridge legal.design (sites_of (points_of legal.design setup))) its_system (subst (λ (ss : List ℕ). Bridge legal.design ss system) all_sites bridge)
 
-      its_claims : AreClaimsFor (system_of legal.design setup) effort (points_of legal.design setup) claims used
+      its_claims : AreClaimsFor (system_of legal setup) effort (points_of legal.design setup) claims used
       its_claims = subst (λ (m : Machine). AreClaimsFor m effort (points_of legal.design setup) claims used) its_system (subst (λ (ps : List Point). AreClaimsFor system effort ps claims used) listed made)
 
       pub made_of_front : (bytes : List ℕ) → (FitsButLines (record { setup = setup; claims = claims }) → Reads bytes (lined (record { setup = setup; claims = claims }))) →
           IsMade text setup.top setup.clock setup.kinds effort bytes used
       made_of_front bytes readable =
-          is_made text tree setup legal.design of_text is built plain its_bridge effort small claims used its_claims bytes
-          (readable (cert_fits text tree setup legal.design of_text is built plain its_bridge effort small claims used its_claims))
+          is_made text tree setup legal of_text is built plain its_bridge effort small claims used its_claims bytes
+          (readable (cert_fits text tree setup legal of_text is built plain its_bridge effort small claims used its_claims))

@@ -4,6 +4,7 @@ use Rattle.std.specs.Prelude.{slice_get, option_map}
 use Rattle.std.proofs.lemmas.Option.{slice_get-map, slice_get_cases}
 use Rattle.design_core.specs.declared.flat.Design.{Design}
 use Rattle.design_core.specs.declared.setup.Setup.{Setup}
+use Rattle.design_core.specs.Ordered.{Ordered}
 use Rattle.design_core.specs.Legality.{IsLegal}
 use Rattle.design_core.specs.Verdicts.{HitAt}
 use Rattle.bit_system.specs.declared.ladder.Depth.{Depth}
@@ -19,7 +20,7 @@ use Rattle.cover_points.specs.declared.point.Point.{Point}
 use Rattle.cover_points.specs.declared.point.Test.{Test}
 use Rattle.cover_points.specs.declared.point.Test.TheVariants.{Passed}
 use Rattle.cover_points.specs.Points.{points_of, site_of, hit_by}
-use Rattle.elab_flat.specs.Designs.{AreDistinct}
+use Rattle.elab_flat.proofs.BitNames.{AreDistinct}
 use Rattle.source_check.specs.Ladders.{state_names}
 use Rattle.source_check.specs.Judging.{system_of, Shows, Holds, Accepted, told}
 use Rattle.source_check.proofs.Truth.{sites_of}
@@ -49,26 +50,29 @@ pub no_prelude : (d : Design) (order sites : List ℕ) → (plain_of d order sit
 unfolding plain_of
 no_prelude d order sites = refl
 
-module _ (d : Design) (legal : IsLegal d []) (setup : Setup) (plain : setup.cycles ≡ 0) where
+module _ (l : Ordered) (legal : IsLegal l.design l.order) (setup : Setup) (plain : setup.cycles ≡ 0) where
+  abbrev d : Design
+  d = l.design
+
   abbrev points : List Point
   points = points_of d setup
 
   abbrev m : Machine
-  m = system_of d setup
+  m = system_of l setup
 
   module _ (bridge : Bridge d (sites_of points) m) (distinct : AreDistinct (state_names m.states)) (effort : ℕ) where
     -- a ladder that is accepted shows what it did, once its lemmas name state bits
-    shows : (k : ℕ) (depth : Depth) (l : Ladder) → l.depth ≡ depth → IsAccepted m k l → Shows m k depth (named_ladder m.states l)
-    shows k depth l same accepted = subst (IsAccepted m k) (sym (ladder_again m.states distinct l depth (have_bits m l accepted.shape) same)) accepted
+    shows : (k : ℕ) (depth : Depth) (x : Ladder) → x.depth ≡ depth → IsAccepted m k x → Shows m k depth (named_ladder m.states x)
+    shows k depth x same accepted = subst (IsAccepted m k) (sym (ladder_again m.states distinct x depth (have_bits m x accepted.shape) same)) accepted
 
     reached : (k : ℕ) (test : Test) (w : Walk) → slice_get (sites_of points) k ≡ Some (site_of test) → EndsAtFirstHit m k w → HitAt d setup (hit_by d test) (stimulus_of w) (length w.lines - 1)
-    reached k (Passed site) w at ends = hits_there d (sites_of points) m bridge.cycle setup plain (input_count d [] legal (sites_of points)) k site at w ends
+    reached k (Passed site) w at ends = hits_there d (sites_of points) m bridge.cycle setup plain (input_count d l.order legal (sites_of points)) k site at w ends
 
     -- what was found out of a point holds of it
     holds_found : (k : ℕ) (p : Point) (f : Proved) → slice_get (sites_of points) k ≡ Some (site_of p.test) → IsProved m k effort f → Holds m d setup k p (body_of m.states f)
-    holds_found k p (found.Excluded l) at is = shows k Forever l is.depth is.accepted
+    holds_found k p (found.Excluded x) at is = shows k Forever x is.depth is.accepted
     holds_found k p (found.Reached w) at is = reached k p.test w at is
-    holds_found k p (found.Open cycles l used) at is = shows k (Steps cycles) l (is.depth ∙ steps_are m.prelude cycles (no_prelude d [] (sites_of points))) is.accepted
+    holds_found k p (found.Open cycles x used) at is = shows k (Steps cycles) x (is.depth ∙ steps_are m.prelude cycles (no_prelude d l.order (sites_of points))) is.accepted
 
     holds_one : (k : ℕ) (p : Point) (c : CertClaim) → slice_get points k ≡ Some p → IsClaimFor m k effort p c → (c.point ≡ p.name) × Holds m d setup k p c.body
     holds_one k p c at one =

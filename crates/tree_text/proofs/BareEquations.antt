@@ -20,8 +20,13 @@ use Rattle.vlog_syntax.specs.declared.stmt.Target.TheFolds.{fold-roll-Target}
 use Rattle.vlog_syntax.specs.declared.stmt.Stmt.{Stmt}
 use Rattle.vlog_syntax.specs.declared.stmt.Stmt.TheVariants as stmt
 use Rattle.vlog_syntax.specs.declared.stmt.Stmt.TheOpen.{Stmt-F}
+use Rattle.vlog_syntax.specs.declared.stmt.CaseItem.{CaseItem, fold-roll-CaseItem}
+use Rattle.vlog_syntax.specs.declared.stmt.CaseDefault.{CaseDefault, fold-roll-CaseDefault}
+use Rattle.vlog_syntax.specs.declared.stmt.CaseKind.{CaseKind}
+use Rattle.vlog_syntax.specs.declared.stmt.Timing.{Timing}
+use Rattle.vlog_syntax.specs.declared.stmt.Loop.{Loop}
 use Rattle.vlog_syntax.specs.declared.stmt.Stmt.TheFolds.{fold-roll-Stmt}
-use Rattle.tree_text.specs.Places.{nowhere, bare_ident, expr_step, select_step, operand_step, bare_expr, bare_select, bare_operand, target_step, bare_target, stmt_step, bare_stmt}
+use Rattle.tree_text.specs.Places.{nowhere, bare_ident, expr_step, select_step, operand_step, bare_expr, bare_select, bare_operand, target_step, bare_target, bare_timing, bare_loop, stmt_step, case_item_step, case_default_step, bare_stmt, bare_case_item, bare_case_default}
 
 pub bare_number : (n : Number) → bare_expr (expr.Number n) ≡ expr.Number (record { at = nowhere; text = n.text })
 bare_number n = ap bare_expr (sym (expr.rolls-Number n)) ∙ fold-roll-Expr Expr Select Operand expr_step select_step operand_step (Expr-F.Number n)
@@ -63,12 +68,28 @@ bare_named_target x s = ap bare_target (sym (target.rolls-Name x s)) ∙ fold-ro
 pub bare_joined_target : (at : Place) (ts : List Target) → bare_target (target.Concat at ts) ≡ target.Concat nowhere (map bare_target ts)
 bare_joined_target at ts = ap bare_target (sym (target.rolls-Concat at ts)) ∙ fold-roll-Target Target target_step (Target-F.Concat at ts)
 
-pub bare_assign : (at : Place) (t : Target) (x : Expr) → bare_stmt (stmt.Nonblocking at t x) ≡ stmt.Nonblocking nowhere (bare_target t) (bare_expr x)
-bare_assign at t x = ap bare_stmt (sym (stmt.rolls-Nonblocking at t x)) ∙ fold-roll-Stmt Stmt stmt_step (Stmt-F.Nonblocking at t x)
+pub bare_timed : (at : Place) (t : Target) (when : Timing) (x : Expr) → bare_stmt (stmt.Assign at t when x) ≡ stmt.Assign nowhere (bare_target t) (bare_timing when) (bare_expr x)
+bare_timed at t when x = ap bare_stmt (sym (stmt.rolls-Assign at t when x)) ∙ fold-roll-Stmt Stmt CaseDefault CaseItem stmt_step case_default_step case_item_step (Stmt-F.Assign at t when x)
 
 pub bare_branch : (at : Place) (x : Expr) (s : Stmt) (o : Option Stmt) → bare_stmt (stmt.If at x s o) ≡ stmt.If nowhere (bare_expr x) (bare_stmt s) (option_map bare_stmt o)
-bare_branch at x s None = ap bare_stmt (sym (stmt.rolls-If at x s None)) ∙ fold-roll-Stmt Stmt stmt_step (Stmt-F.If at x s None)
-bare_branch at x s (Some o) = ap bare_stmt (sym (stmt.rolls-If at x s (Some o))) ∙ fold-roll-Stmt Stmt stmt_step (Stmt-F.If at x s (Some o))
+bare_branch at x s None = ap bare_stmt (sym (stmt.rolls-If at x s None)) ∙ fold-roll-Stmt Stmt CaseDefault CaseItem stmt_step case_default_step case_item_step (Stmt-F.If at x s None)
+bare_branch at x s (Some o) = ap bare_stmt (sym (stmt.rolls-If at x s (Some o))) ∙ fold-roll-Stmt Stmt CaseDefault CaseItem stmt_step case_default_step case_item_step (Stmt-F.If at x s (Some o))
 
-pub bare_block : (at : Place) (ss : List Stmt) → bare_stmt (stmt.Block at ss) ≡ stmt.Block nowhere (map bare_stmt ss)
-bare_block at ss = ap bare_stmt (sym (stmt.rolls-Block at ss)) ∙ fold-roll-Stmt Stmt stmt_step (Stmt-F.Block at ss)
+pub bare_selection : (at : Place) (kind : CaseKind) (x : Expr) (is : List CaseItem) (d : Option CaseDefault) (js : List CaseItem) → bare_stmt (stmt.Case at kind x is d js) ≡ stmt.Case nowhere kind (bare_expr x) (map bare_case_item is) (option_map bare_case_default d) (map bare_case_item js)
+bare_selection at kind x is None js = ap bare_stmt (sym (stmt.rolls-Case at kind x is None js)) ∙ fold-roll-Stmt Stmt CaseDefault CaseItem stmt_step case_default_step case_item_step (Stmt-F.Case at kind x is None js)
+bare_selection at kind x is (Some d) js = ap bare_stmt (sym (stmt.rolls-Case at kind x is (Some d) js)) ∙ fold-roll-Stmt Stmt CaseDefault CaseItem stmt_step case_default_step case_item_step (Stmt-F.Case at kind x is (Some d) js)
+
+pub bare_turned : (at : Place) (head : Loop) (s : Stmt) → bare_stmt (stmt.For at head s) ≡ stmt.For nowhere (bare_loop head) (bare_stmt s)
+bare_turned at head s = ap bare_stmt (sym (stmt.rolls-For at head s)) ∙ fold-roll-Stmt Stmt CaseDefault CaseItem stmt_step case_default_step case_item_step (Stmt-F.For at head s)
+
+pub bare_block : (at : Place) (name : Option Ident) (ss : List Stmt) → bare_stmt (stmt.Block at name ss) ≡ stmt.Block nowhere (option_map bare_ident name) (map bare_stmt ss)
+bare_block at name ss = ap bare_stmt (sym (stmt.rolls-Block at name ss)) ∙ fold-roll-Stmt Stmt CaseDefault CaseItem stmt_step case_default_step case_item_step (Stmt-F.Block at name ss)
+
+pub bare_empty : (at : Place) → bare_stmt (stmt.Empty at) ≡ stmt.Empty nowhere
+bare_empty at = ap bare_stmt (sym (stmt.rolls-Empty at)) ∙ fold-roll-Stmt Stmt CaseDefault CaseItem stmt_step case_default_step case_item_step (Stmt-F.Empty at)
+
+pub bare_item_is : (i : CaseItem) → bare_case_item i ≡ record { labels = map bare_expr i.labels; body = bare_stmt i.body }
+bare_item_is i = fold-roll-CaseItem Stmt CaseDefault CaseItem stmt_step case_default_step case_item_step (record { labels = i.labels; body = i.body })
+
+pub bare_default_is : (d : CaseDefault) → bare_case_default d ≡ record { at = nowhere; has_colon = d.has_colon; body = bare_stmt d.body }
+bare_default_is d = fold-roll-CaseDefault Stmt CaseDefault CaseItem stmt_step case_default_step case_item_step (record { at = d.at; has_colon = d.has_colon; body = d.body })

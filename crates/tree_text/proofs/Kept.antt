@@ -1,18 +1,25 @@
 -- Tokens with the same texts spell trees that are the same but for places: rule by rule of the grammar.
-use Rattle.std.proofs.Common.{◌≡◌, ℕ, List, [], ◌∷◌, Option, Some, None, map, refl, ap}
+use Rattle.std.proofs.Common.{◌≡◌, ℕ, true, false, List, [], ◌∷◌, Option, Some, None, map, refl, ap}
 use Rattle.std.specs.Prelude.{option_map}
 use Rattle.word_core.specs.declared.place.Place.{Place}
 use Rattle.vlog_tokens.specs.declared.word.Word.{Word}
 use Rattle.vlog_tokens.specs.Tokens.{Token}
 use Rattle.vlog_tokens.specs.Words.{word_of}
 use Rattle.vlog_syntax.specs.declared.expr.PartKind.{PartKind}
+use Rattle.vlog_syntax.specs.declared.expr.Ident.{Ident}
+use Rattle.vlog_syntax.specs.declared.expr.Select.{Select}
 use Rattle.vlog_syntax.specs.declared.expr.Expr.{Expr}
 use Rattle.vlog_syntax.specs.declared.expr.Expr.TheVariants as expr
 use Rattle.vlog_syntax.specs.declared.stmt.Stmt.{Stmt}
 use Rattle.vlog_syntax.specs.declared.stmt.Stmt.TheVariants as stmt
+use Rattle.vlog_syntax.specs.declared.stmt.CaseItem.{CaseItem}
+use Rattle.vlog_syntax.specs.declared.stmt.CaseDefault.{CaseDefault}
+use Rattle.vlog_syntax.specs.declared.stmt.CaseKind.{CaseKind}
+use Rattle.vlog_syntax.specs.declared.stmt.Timing.TheVariants as timing
+use Rattle.vlog_syntax.specs.declared.stmt.Delay.TheVariants as delay
 use Rattle.vlog_syntax.specs.declared.stmt.Target.TheVariants as target
 use Rattle.vlog_syntax.specs.declared.module.NetKind.{NetKind}
-use Rattle.vlog_syntax.specs.declared.module.Edge.TheVariants as edge
+use Rattle.vlog_syntax.specs.declared.module.Events.TheVariants as events
 use Rattle.vlog_syntax.specs.declared.module.Item.TheVariants as item
 use Rattle.vlog_syntax.specs.declared.module.Tree.{Tree}
 use Rattle.vlog_rules.specs.declared.level.Rows.{Rows}
@@ -25,9 +32,9 @@ use Rattle.vlog_rules.specs.declared.level.Braced.{Braced}
 use Rattle.vlog_rules.specs.declared.level.Braced.TheVariants as inside
 use Rattle.vlog_rules.specs.Grammar as g
 use Rattle.vlog_rules.specs.Grammar.{V, part_of, rules, IsSource}
-use Rattle.parsing.specs.Forms.{Form, token, both, many, run, made, part, Rule, node, one_of, Stands}
-use Rattle.tree_text.specs.Places.{nowhere, bare_ident, bare_expr, bare_select, bare_operand, bare_target, bare_stmt, bare_range, bare_port, bare_event, bare_item, bare_module, without_places}
-use Rattle.tree_text.proofs.BareEquations.{bare_number, bare_name, bare_paren, bare_concat, bare_repeat, bare_unary, bare_row, bare_choice, bare_bit, bare_part, bare_operator, bare_named_target, bare_joined_target, bare_assign, bare_branch, bare_block}
+use Rattle.parsing.specs.Forms.{Form, token, nothing, both, either, many, run, made, part, Rule, node, one_of, Stands}
+use Rattle.tree_text.specs.Places.{nowhere, bare_ident, bare_expr, bare_select, bare_operand, bare_target, bare_delay, bare_timing, bare_loop, bare_stmt, bare_case_item, bare_case_default, bare_range, bare_head, bare_port, bare_net, bare_assign, bare_event, bare_events, bare_item, bare_module, without_places}
+use Rattle.tree_text.proofs.BareEquations.{bare_number, bare_name, bare_paren, bare_concat, bare_repeat, bare_unary, bare_row, bare_choice, bare_bit, bare_part, bare_operator, bare_named_target, bare_joined_target, bare_timed, bare_branch, bare_selection, bare_turned, bare_block, bare_empty, bare_item_is, bare_default_is}
 use Rattle.tree_text.proofs.Texts.{text_of}
 use Rattle.tree_text.proofs.Following as following
 use Rattle.tree_text.proofs.Following.{token_follows, nothing_follows, both_follows, either_follows, many_follows, run_follows, tailed_follows, made_follows, node_follows, one_of_follows, grown_follows, part_follows}
@@ -65,8 +72,14 @@ module _ (N : (s : Sort) → ℕ → part_of s → List Token → List Token →
   at_end : {A E : Type 0} {v : Word} {a : Form V A} {p : A → E} → S a p → S (g.before a v) p
   at_end ha = a_value (λ y. y.0) (λ x. refl) (a_pair ha a_token)
 
+  one_or_other : {A E : Type 0} {a b : Form V A} {p : A → E} → S a p → S b p → S (either a b) p
+  one_or_other ha hb = either_follows V (List ℕ) text_of word_of worded N ha hb
+
+  no_token : S nothing (λ x. x)
+  no_token = nothing_follows V (List ℕ) text_of word_of worded N
+
   maybe_kept : {A E : Type 0} {a : Form V A} {p : A → E} → S a p → S (g.maybe a) (option_map p)
-  maybe_kept ha = either_follows V (List ℕ) text_of word_of worded N (a_value Some (λ x. refl) ha) (a_value (λ x. None) (λ x. refl) (nothing_follows V (List ℕ) text_of word_of worded N))
+  maybe_kept ha = one_or_other (a_value Some (λ x. refl) ha) (a_value (λ x. None) (λ x. refl) no_token)
 
   a_run : {A E : Type 0} {a b : Form V A} {p : A → E} → S a p → S b p → S (run a b) (map p)
   a_run ha hb = run_follows V (List ℕ) text_of word_of worded N ha hb
@@ -139,7 +152,7 @@ module _ (N : (s : Sort) → ℕ → part_of s → List Token → List Token →
 
     braced_kept : S g.braced bare_braced
     unfolding g.braced
-    braced_kept = either_follows V (List ℕ) text_of word_of worded N (a_value inside.Repeated (λ xs. refl) repeated_kept) (a_value inside.Further (λ xs. refl) further_kept)
+    braced_kept = one_or_other (a_value inside.Repeated (λ xs. refl) repeated_kept) (a_value inside.Further (λ xs. refl) further_kept)
 
     brace_of_kept : (at : Place) (x : Expr) (b : Braced) → bare_expr (g.brace_of at x b) ≡ g.brace_of nowhere (bare_expr x) (bare_braced b)
     brace_of_kept at x (inside.Repeated xs) = bare_repeat at x xs
@@ -266,9 +279,17 @@ module _ (N : (s : Sort) → ℕ → part_of s → List Token → List Token →
 
     -- ---- statements
 
+    delayed_kept : S g.delayed bare_delay
+    unfolding g.delayed
+    delayed_kept = in_front (one_or_other (a_value (λ text. delay.Number (record { at = nowhere; text = text })) (λ t. refl) a_token) (a_value delay.Name (λ x. refl) ident_kept))
+
+    timed_kept : S g.timed bare_timing
+    unfolding g.timed
+    timed_kept = one_or_other (a_value (λ text. timing.Blocking) (λ t. refl) a_token) (a_value timing.Nonblocking (λ o. refl) (in_front (maybe_kept delayed_kept)))
+
     assign_kept : S g.assign bare_stmt
     unfolding g.assign
-    assign_kept = a_value (λ y. stmt.Nonblocking nowhere y.0 y.1) (λ x. bare_assign (g.target_starts x.0) x.0 x.1) (a_pair (H sort.Target) (in_front (at_end whole_kept)))
+    assign_kept = a_value (λ y. stmt.Assign nowhere y.0 y.1.0 y.1.1) (λ x. bare_timed (g.target_starts x.0) x.0 x.1.0 x.1.1) (a_pair (H sort.Target) (a_pair timed_kept (at_end whole_kept)))
 
     tested_kept : S g.tested bare_expr
     unfolding g.tested
@@ -290,13 +311,93 @@ module _ (N : (s : Sort) → ℕ → part_of s → List Token → List Token →
     unfolding g.statements
     statements_kept = any_number (H sort.Stmt)
 
+    block_name_kept : S g.block_name (option_map bare_ident)
+    unfolding g.block_name
+    block_name_kept = maybe_kept (in_front ident_kept)
+
     block_kept : S g.block bare_stmt
     unfolding g.block
-    block_kept = a_value (λ y. stmt.Block nowhere y.1) (λ x. bare_block x.0.at x.1) (a_pair a_token (at_end statements_kept))
+    block_kept = a_value (λ y. stmt.Block nowhere y.1.0 y.1.1) (λ x. bare_block x.0.at x.1.0 x.1.1) (a_pair a_token (a_pair block_name_kept (at_end statements_kept)))
+
+    empty_kept : S g.empty bare_stmt
+    unfolding g.empty
+    empty_kept = a_value (λ text. stmt.Empty nowhere) (λ t. bare_empty t.at) a_token
+
+    -- ---- `case`
+
+    case_item_kept : S g.case_item bare_case_item
+    unfolding g.case_item
+    case_item_kept = a_value (λ y. record { labels = y.0; body = y.1 }) (λ x. bare_item_is (record { labels = x.0; body = x.1 })) (a_pair exprs_kept (in_front (H sort.Stmt)))
+
+    case_items_kept : S g.case_items (map bare_case_item)
+    unfolding g.case_items
+    case_items_kept = any_number case_item_kept
+
+    some_items_kept : S g.some_items (map bare_case_item)
+    unfolding g.some_items
+    some_items_kept = a_run case_item_kept case_item_kept
+
+    colon_kept : S g.maybe_colon (λ b. b)
+    unfolding g.maybe_colon
+    colon_kept = one_or_other (a_value (λ text. true) (λ t. refl) a_token) (a_value (λ x. false) (λ x. refl) no_token)
+
+    case_default_kept : S g.case_default bare_case_default
+    unfolding g.case_default
+    case_default_kept = a_value (λ y. record { at = nowhere; has_colon = y.1.0; body = y.1.1 }) (λ x. bare_default_is (record { at = x.0.at; has_colon = x.1.0; body = x.1.1 })) (a_pair a_token (a_pair colon_kept (H sort.Stmt)))
+
+    -- a default and the items behind it
+    abbrev Further : Type 0
+    Further = CaseDefault × List CaseItem
+
+    abbrev bare_further : Further → Further
+    bare_further d = (bare_case_default d.0, map bare_case_item d.1)
+
+    default_on_kept : S g.default_on bare_further
+    unfolding g.default_on
+    default_on_kept = a_pair case_default_kept case_items_kept
+
+    abbrev bare_cases : List CaseItem × Option Further → List CaseItem × Option Further
+    bare_cases x = (map bare_case_item x.0, option_map bare_further x.1)
+
+    items_on_kept : S g.items_on bare_cases
+    unfolding g.items_on
+    items_on_kept = a_pair some_items_kept (maybe_kept default_on_kept)
+
+    cases_kept : S g.cases bare_cases
+    unfolding g.cases
+    cases_kept = one_or_other (a_value (λ d. ([], Some d)) (λ x. refl) default_on_kept) items_on_kept
+
+    case_of_kept : (at : Place) (kind : CaseKind) (x : Expr) (is : List CaseItem) (o : Option Further) → bare_stmt (g.case_of at kind x is o) ≡ g.case_of nowhere kind (bare_expr x) (map bare_case_item is) (option_map bare_further o)
+    case_of_kept at kind x is None = bare_selection at kind x is None []
+    case_of_kept at kind x is (Some d) = bare_selection at kind x is (Some d.0) d.1
+
+    selection_kept : S g.selection bare_stmt
+    unfolding g.selection
+    selection_kept = a_value (λ y. g.case_of nowhere (g.case_kind_of (word_of y.0)) y.1.0 y.1.1.0 y.1.1.1) (λ x. case_of_kept x.0.at (g.case_kind_of (word_of x.0.text)) x.1.0 x.1.1.0 x.1.1.1)
+        (a_pair a_token (a_pair tested_kept (at_end cases_kept)))
+
+    -- ---- `for`
+
+    named_value_kept : S {A = Ident × Expr} {E = Ident × Expr} g.named_value (λ x. (bare_ident x.0, bare_expr x.1))
+    unfolding g.named_value
+    named_value_kept = a_pair ident_kept (in_front whole_kept)
+
+    stepped_kept : S {A = Ident × Expr} {E = Ident × Expr} g.stepped (λ x. (bare_ident x.0, bare_expr x.1))
+    unfolding g.stepped
+    stepped_kept = in_front (at_end named_value_kept)
+
+    loop_kept : S g.loop_head bare_loop
+    unfolding g.loop_head
+    loop_kept = a_value (λ y. record { at = nowhere; variable = y.1.0.0; first = y.1.0.1; condition = y.1.1.0; stepped = y.1.1.1.0; step = y.1.1.1.1 }) (λ x. refl)
+        (a_pair a_token (a_pair named_value_kept (a_pair (in_front whole_kept) stepped_kept)))
+
+    turned_kept : S g.turned bare_stmt
+    unfolding g.turned
+    turned_kept = a_value (λ y. stmt.For nowhere y.1.0 y.1.1) (λ x. bare_turned x.0.at x.1.0 x.1.1) (a_pair a_token (a_pair loop_kept (H sort.Stmt)))
 
     stmt_kept : R g.stmt_rule bare_stmt
     unfolding g.stmt_rule
-    stmt_kept = one_kept (form_kept assign_kept) (one_kept (form_kept branch_kept) (form_kept block_kept))
+    stmt_kept = one_kept (form_kept assign_kept) (one_kept (form_kept branch_kept) (one_kept (form_kept selection_kept) (one_kept (form_kept turned_kept) (one_kept (form_kept block_kept) (form_kept empty_kept)))))
 
     pub rule_kept : (s : Sort) → R (g.rules s) (bare_part_of s)
     unfolding g.rules
@@ -322,11 +423,26 @@ module _ (N : (s : Sort) → ℕ → part_of s → List Token → List Token →
     unfolding g.start_value
     start_value_kept = in_front whole_kept
 
+    head_kept : S g.port_head bare_head
+    unfolding g.port_head
+    head_kept = a_value (λ y. record { at = nowhere; direction = g.direction_of (word_of y.0); kind = y.1.0; range = y.1.1 })
+        (λ x. ap (λ k. record { at = nowhere; direction = g.direction_of (word_of x.0.text); kind = k; range = option_map bare_range x.1.1 }) (kind_kept x.1.0))
+        (a_pair a_token (a_pair net_kinds_kept (maybe_kept range_kept)))
+
+    valued_kept : S {A = Ident × Option Expr} {E = Ident × Option Expr} (both g.ident (g.maybe g.start_value)) (λ x. (bare_ident x.0, option_map bare_expr x.1))
+    valued_kept = a_pair ident_kept (maybe_kept start_value_kept)
+
+    full_port_kept : S g.full_port bare_port
+    unfolding g.full_port
+    full_port_kept = a_value (λ y. record { head = Some y.0; name = y.1.0; value = y.1.1 }) (λ x. refl) (a_pair head_kept valued_kept)
+
+    continued_port_kept : S g.continued_port bare_port
+    unfolding g.continued_port
+    continued_port_kept = a_value (λ y. record { head = None; name = y.0; value = y.1 }) (λ x. refl) valued_kept
+
     port_kept : S g.port bare_port
     unfolding g.port
-    port_kept = a_value (λ y. record { at = nowhere; direction = g.direction_of (word_of y.0); kind = y.1.0; range = y.1.1.0; name = y.1.1.1.0; value = y.1.1.1.1 })
-        (λ x. ap (λ k. record { at = nowhere; direction = g.direction_of (word_of x.0.text); kind = k; range = option_map bare_range x.1.1.0; name = bare_ident x.1.1.1.0; value = option_map bare_expr x.1.1.1.1 }) (kind_kept x.1.0))
-        (a_pair a_token (a_pair net_kinds_kept (a_pair (maybe_kept range_kept) (a_pair ident_kept (maybe_kept start_value_kept)))))
+    port_kept = one_or_other full_port_kept continued_port_kept
 
     comma_port_kept : S g.comma_port bare_port
     unfolding g.comma_port
@@ -334,25 +450,101 @@ module _ (N : (s : Sort) → ℕ → part_of s → List Token → List Token →
 
     ports_kept : S g.ports (map bare_port)
     unfolding g.ports
-    ports_kept = in_front (at_end (a_run port_kept comma_port_kept))
+    ports_kept = in_front (at_end (a_run full_port_kept comma_port_kept))
+
+    -- ---- nets, variables and what is assigned at any time
+
+    net_kept : S g.net bare_net
+    unfolding g.net
+    net_kept = a_value (λ y. record { name = y.0; value = y.1 }) (λ x. refl) valued_kept
+
+    comma_net_kept : S g.comma_net bare_net
+    unfolding g.comma_net
+    comma_net_kept = in_front net_kept
+
+    net_list_kept : S g.net_list (map bare_net)
+    unfolding g.net_list
+    net_list_kept = at_end (a_run net_kept comma_net_kept)
+
+    nets_kept : S g.nets bare_item
+    unfolding g.nets
+    nets_kept = a_value (λ y. item.Nets (record { at = nowhere; kind = g.net_kind_of (word_of y.0); range = y.1.0; nets = y.1.1 })) (λ x. refl) (a_pair a_token (a_pair (maybe_kept range_kept) net_list_kept))
+
+    comma_ident_kept : S g.comma_ident bare_ident
+    unfolding g.comma_ident
+    comma_ident_kept = in_front ident_kept
+
+    ident_list_kept : S g.ident_list (map bare_ident)
+    unfolding g.ident_list
+    ident_list_kept = at_end (a_run ident_kept comma_ident_kept)
+
+    integers_kept : S g.integers bare_item
+    unfolding g.integers
+    integers_kept = a_value (λ y. item.Integers (record { at = nowhere; names = y.1 })) (λ x. refl) (a_pair a_token ident_list_kept)
+
+    continuous_kept : S g.continuous bare_assign
+    unfolding g.continuous
+    continuous_kept = a_value (λ y. record { target = y.0; value = y.1 }) (λ x. refl) (a_pair (H sort.Target) (in_front whole_kept))
+
+    comma_continuous_kept : S g.comma_continuous bare_assign
+    unfolding g.comma_continuous
+    comma_continuous_kept = in_front continuous_kept
+
+    continuous_list_kept : S g.continuous_list (map bare_assign)
+    unfolding g.continuous_list
+    continuous_list_kept = at_end (a_run continuous_kept comma_continuous_kept)
+
+    assigns_kept : S g.assigns bare_item
+    unfolding g.assigns
+    assigns_kept = a_value (λ y. item.Assigns (record { at = nowhere; assigns = y.1 })) (λ x. refl) (a_pair a_token continuous_list_kept)
 
     -- ---- processes
 
+    event_name_kept : S {A = Ident × Option Select} {E = Ident × Option Select} g.event_name (λ x. (bare_ident x.0, option_map bare_select x.1))
+    unfolding g.event_name
+    event_name_kept = a_pair ident_kept (maybe_kept selected_kept)
+
+    edge_event_kept : S g.edge_event bare_event
+    unfolding g.edge_event
+    edge_event_kept = a_value (λ y. record { at = nowhere; separator = None; edge = Some (g.edge_of (word_of y.0)); name = y.1.0; select = y.1.1 }) (λ x. refl) (a_pair a_token event_name_kept)
+
+    plain_event_kept : S g.plain_event bare_event
+    unfolding g.plain_event
+    plain_event_kept = a_value (λ y. record { at = nowhere; separator = None; edge = None; name = y.0; select = y.1 }) (λ x. refl) event_name_kept
+
     event_kept : S g.event bare_event
     unfolding g.event
-    event_kept = a_value (λ y. record { at = nowhere; edge = Some edge.Posedge; name = y.1 }) (λ x. refl) (a_pair a_token ident_kept)
+    event_kept = one_or_other edge_event_kept plain_event_kept
 
-    events_kept : S g.events (map bare_event)
-    unfolding g.events
-    events_kept = in_front (in_front (at_end (a_value (λ y. y ∷ []) (λ x. refl) event_kept)))
+    further_event_kept : S g.further_event bare_event
+    unfolding g.further_event
+    further_event_kept = a_value (λ y. g.further_of (g.separator_of (word_of y.0)) y.1) (λ x. refl) (a_pair a_token event_kept)
+
+    event_list_kept : S g.event_list bare_events
+    unfolding g.event_list
+    event_list_kept = a_value events.List (λ es. refl) (a_run event_kept further_event_kept)
+
+    inner_events_kept : S g.inner_events bare_events
+    unfolding g.inner_events
+    inner_events_kept = one_or_other (a_value (λ text. events.Star true) (λ t. refl) a_token) event_list_kept
+
+    all_events_kept : S g.all_events bare_events
+    unfolding g.all_events
+    all_events_kept = in_front (one_or_other (a_value (λ text. events.Star false) (λ t. refl) a_token) (in_front (at_end inner_events_kept)))
 
     always_kept : S g.always bare_item
     unfolding g.always
-    always_kept = a_value (λ y. item.Always (record { at = nowhere; events = y.1.0; body = y.1.1 })) (λ x. refl) (a_pair a_token (a_pair events_kept (H sort.Stmt)))
+    always_kept = a_value (λ y. item.Always (record { at = nowhere; events = y.1.0; body = y.1.1 })) (λ x. refl) (a_pair a_token (a_pair all_events_kept (H sort.Stmt)))
+
+    -- ---- items
+
+    one_item_kept : S g.one_item bare_item
+    unfolding g.one_item
+    one_item_kept = one_or_other nets_kept (one_or_other integers_kept (one_or_other assigns_kept always_kept))
 
     items_kept : S g.items (map bare_item)
     unfolding g.items
-    items_kept = any_number always_kept
+    items_kept = any_number one_item_kept
 
     -- ---- the text
 

@@ -20,8 +20,13 @@ use Rattle.vlog_syntax.specs.declared.stmt.Target.TheFolds.{fold-roll-Target}
 use Rattle.vlog_syntax.specs.declared.stmt.Stmt.{Stmt}
 use Rattle.vlog_syntax.specs.declared.stmt.Stmt.TheVariants as stmt
 use Rattle.vlog_syntax.specs.declared.stmt.Stmt.TheOpen.{Stmt-F}
+use Rattle.vlog_syntax.specs.declared.stmt.CaseItem.{CaseItem, fold-roll-CaseItem}
+use Rattle.vlog_syntax.specs.declared.stmt.CaseDefault.{CaseDefault, fold-roll-CaseDefault}
+use Rattle.vlog_syntax.specs.declared.stmt.CaseKind.{CaseKind}
+use Rattle.vlog_syntax.specs.declared.stmt.Timing.{Timing}
+use Rattle.vlog_syntax.specs.declared.stmt.Loop.{Loop}
 use Rattle.vlog_syntax.specs.declared.stmt.Stmt.TheFolds.{fold-roll-Stmt}
-use Rattle.tree_text.specs.Words.{Words, in_a_row, each_behind, between, if_there, behind_if_there, parenthesized, bracketed, braced, unary_text, binary_text, part_text, expr_step, select_step, operand_step, expr_words, select_words, operand_words, target_step, target_words, stmt_step, stmt_words}
+use Rattle.tree_text.specs.Words.{Words, in_a_row, each_behind, between, if_there, behind_if_there, parenthesized, bracketed, braced, unary_text, binary_text, part_text, expr_step, select_step, operand_step, expr_words, select_words, operand_words, target_step, target_words, ident_words, timing_words, case_text, colon_words, loop_words, stmt_step, case_item_step, case_default_step, stmt_words, case_item_words, case_default_words}
 
 pub number_words : (n : Number) → expr_words (expr.Number n) ≡ n.text ∷ []
 number_words n = ap expr_words (sym (expr.rolls-Number n)) ∙ fold-roll-Expr Words Words Words expr_step select_step operand_step (Expr-F.Number n)
@@ -69,17 +74,40 @@ named_target_words x s = ap target_words (sym (target.rolls-Name x s)) ∙ fold-
 pub joined_target_words : (at : Place) (ts : List Target) → target_words (target.Concat at ts) ≡ braced (between (codes ",") (map target_words ts))
 joined_target_words at ts = ap target_words (sym (target.rolls-Concat at ts)) ∙ fold-roll-Target Words target_step (Target-F.Concat at ts)
 
-pub assign_words : (at : Place) (t : Target) (x : Expr) → stmt_words (stmt.Nonblocking at t x) ≡ target_words t ++ codes "<=" ∷ (expr_words x ++ codes ";" ∷ [])
-assign_words at t x = ap stmt_words (sym (stmt.rolls-Nonblocking at t x)) ∙ fold-roll-Stmt Words stmt_step (Stmt-F.Nonblocking at t x)
+pub timed_words : (at : Place) (t : Target) (when : Timing) (x : Expr) →
+    stmt_words (stmt.Assign at t when x) ≡ target_words t ++ (timing_words when ++ (expr_words x ++ codes ";" ∷ []))
+timed_words at t when x = ap stmt_words (sym (stmt.rolls-Assign at t when x)) ∙ fold-roll-Stmt Words Words Words stmt_step case_default_step case_item_step (Stmt-F.Assign at t when x)
 
 pub branch_words : (at : Place) (x : Expr) (s : Stmt) (o : Option Stmt) →
     stmt_words (stmt.If at x s o) ≡ codes "if" ∷ (parenthesized (expr_words x) ++ (stmt_words s ++ behind_if_there (codes "else") (option_map stmt_words o)))
-branch_words at x s None = ap stmt_words (sym (stmt.rolls-If at x s None)) ∙ fold-roll-Stmt Words stmt_step (Stmt-F.If at x s None)
-branch_words at x s (Some o) = ap stmt_words (sym (stmt.rolls-If at x s (Some o))) ∙ fold-roll-Stmt Words stmt_step (Stmt-F.If at x s (Some o))
+branch_words at x s None = ap stmt_words (sym (stmt.rolls-If at x s None)) ∙ fold-roll-Stmt Words Words Words stmt_step case_default_step case_item_step (Stmt-F.If at x s None)
+branch_words at x s (Some o) = ap stmt_words (sym (stmt.rolls-If at x s (Some o))) ∙ fold-roll-Stmt Words Words Words stmt_step case_default_step case_item_step (Stmt-F.If at x s (Some o))
 
-pub block_words : (at : Place) (ss : List Stmt) → stmt_words (stmt.Block at ss) ≡ codes "begin" ∷ (in_a_row (map stmt_words ss) ++ codes "end" ∷ [])
-block_words at ss = ap stmt_words (sym (stmt.rolls-Block at ss)) ∙ fold-roll-Stmt Words stmt_step (Stmt-F.Block at ss)
+pub selection_words : (at : Place) (kind : CaseKind) (x : Expr) (is : List CaseItem) (d : Option CaseDefault) (js : List CaseItem) →
+    stmt_words (stmt.Case at kind x is d js) ≡ case_text kind ∷ (parenthesized (expr_words x) ++ (in_a_row (map case_item_words is) ++ (if_there (option_map case_default_words d) ++ (in_a_row (map case_item_words js) ++ codes "endcase" ∷ []))))
+selection_words at kind x is None js = ap stmt_words (sym (stmt.rolls-Case at kind x is None js)) ∙ fold-roll-Stmt Words Words Words stmt_step case_default_step case_item_step (Stmt-F.Case at kind x is None js)
+selection_words at kind x is (Some d) js = ap stmt_words (sym (stmt.rolls-Case at kind x is (Some d) js)) ∙ fold-roll-Stmt Words Words Words stmt_step case_default_step case_item_step (Stmt-F.Case at kind x is (Some d) js)
+
+pub turned_words : (at : Place) (head : Loop) (s : Stmt) →
+    stmt_words (stmt.For at head s) ≡ codes "for" ∷ (loop_words head ++ stmt_words s)
+turned_words at head s = ap stmt_words (sym (stmt.rolls-For at head s)) ∙ fold-roll-Stmt Words Words Words stmt_step case_default_step case_item_step (Stmt-F.For at head s)
+
+pub block_words : (at : Place) (name : Option Ident) (ss : List Stmt) →
+    stmt_words (stmt.Block at name ss) ≡ codes "begin" ∷ (behind_if_there (codes ":") (option_map ident_words name) ++ (in_a_row (map stmt_words ss) ++ codes "end" ∷ []))
+block_words at name ss = ap stmt_words (sym (stmt.rolls-Block at name ss)) ∙ fold-roll-Stmt Words Words Words stmt_step case_default_step case_item_step (Stmt-F.Block at name ss)
+
+pub empty_words : (at : Place) →
+    stmt_words (stmt.Empty at) ≡ codes ";" ∷ []
+empty_words at = ap stmt_words (sym (stmt.rolls-Empty at)) ∙ fold-roll-Stmt Words Words Words stmt_step case_default_step case_item_step (Stmt-F.Empty at)
+
+pub item_words_are : (i : CaseItem) → case_item_words i ≡ between (codes ",") (map expr_words i.labels) ++ codes ":" ∷ stmt_words i.body
+item_words_are i = fold-roll-CaseItem Words Words Words stmt_step case_default_step case_item_step (record { labels = i.labels; body = i.body })
+
+pub default_words_are : (d : CaseDefault) → case_default_words d ≡ codes "default" ∷ (colon_words d.has_colon ++ stmt_words d.body)
+default_words_are d = fold-roll-CaseDefault Words Words Words stmt_step case_default_step case_item_step (record { at = d.at; has_colon = d.has_colon; body = d.body })
 
 pub ruleset target_equations = (named_target_words, joined_target_words)
 
-pub ruleset stmt_equations = (assign_words, branch_words, block_words)
+pub ruleset stmt_equations = (timed_words, branch_words, selection_words, turned_words, block_words, empty_words)
+
+pub ruleset item_equations = (item_words_are, default_words_are)

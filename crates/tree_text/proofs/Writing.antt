@@ -25,6 +25,10 @@ with_three w u v all a b c e f g =
     g ∙ ap (λ z. with_tokens z c) (f ∙ ap (λ z. with_tokens z b) e)
     ∙ sym (with_more w a (b ++ c) ∙ with_more (with_tokens w a) b c)
 
+pub with_four : (w u v x all : Written) (a b c d : Words) → u ≡ with_tokens w a → v ≡ with_tokens u b → x ≡ with_tokens v c → all ≡ with_tokens x d → all ≡ with_tokens w (a ++ (b ++ (c ++ d)))
+with_four w u v x all a b c d e f g h =
+    with_three u v x all b c d f g h ∙ ap (λ z. with_tokens z (b ++ (c ++ d))) e ∙ sym (with_more w a (b ++ (c ++ d)))
+
 pub ruleset writing = (with_none, with_one_more, with_more)
 
 -- ---- parts in a row

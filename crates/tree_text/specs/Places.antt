@@ -15,11 +15,23 @@ use Rattle.vlog_syntax.specs.declared.stmt.Target.TheOpen.{Target-F}
 use Rattle.vlog_syntax.specs.declared.stmt.Target.TheFolds.{fold-Target}
 use Rattle.vlog_syntax.specs.declared.stmt.Stmt.{Stmt}
 use Rattle.vlog_syntax.specs.declared.stmt.Stmt.TheVariants as stmt
-use Rattle.vlog_syntax.specs.declared.stmt.Stmt.TheOpen.{Stmt-F}
+use Rattle.vlog_syntax.specs.declared.stmt.Stmt.TheOpen.{Stmt-F, CaseItem-F, CaseDefault-F}
 use Rattle.vlog_syntax.specs.declared.stmt.Stmt.TheFolds.{fold-Stmt}
+use Rattle.vlog_syntax.specs.declared.stmt.CaseItem.{CaseItem, fold-CaseItem}
+use Rattle.vlog_syntax.specs.declared.stmt.CaseDefault.{CaseDefault, fold-CaseDefault}
+use Rattle.vlog_syntax.specs.declared.stmt.Timing.{Timing}
+use Rattle.vlog_syntax.specs.declared.stmt.Timing.TheVariants as timing
+use Rattle.vlog_syntax.specs.declared.stmt.Delay.{Delay}
+use Rattle.vlog_syntax.specs.declared.stmt.Delay.TheVariants as delay
+use Rattle.vlog_syntax.specs.declared.stmt.Loop.{Loop}
 use Rattle.vlog_syntax.specs.declared.module.Event.{Event}
+use Rattle.vlog_syntax.specs.declared.module.Events.{Events}
+use Rattle.vlog_syntax.specs.declared.module.Events.TheVariants as events
 use Rattle.vlog_syntax.specs.declared.module.Range.{Range}
 use Rattle.vlog_syntax.specs.declared.module.Port.{Port}
+use Rattle.vlog_syntax.specs.declared.module.PortHead.{PortHead}
+use Rattle.vlog_syntax.specs.declared.module.Net.{Net}
+use Rattle.vlog_syntax.specs.declared.module.Assign.{Assign}
 use Rattle.vlog_syntax.specs.declared.module.Item.{Item}
 use Rattle.vlog_syntax.specs.declared.module.Item.TheVariants as item
 use Rattle.vlog_syntax.specs.declared.module.Module.{Module}
@@ -69,27 +81,69 @@ target_step (Target-F.Concat at parts) = target.Concat nowhere parts
 abbrev pub bare_target : Target → Target
 bare_target = fold-Target Target target_step
 
-abbrev pub stmt_step : Stmt-F Stmt → Stmt
-stmt_step (Stmt-F.Nonblocking at left value) = stmt.Nonblocking nowhere (bare_target left) (bare_expr value)
+abbrev pub bare_delay : Delay → Delay
+bare_delay (delay.Number n) = delay.Number (record { at = nowhere; text = n.text })
+bare_delay (delay.Name x) = delay.Name (bare_ident x)
+
+abbrev pub bare_timing : Timing → Timing
+bare_timing timing.Blocking = timing.Blocking
+bare_timing (timing.Nonblocking after) = timing.Nonblocking (option_map bare_delay after)
+
+abbrev pub bare_loop : Loop → Loop
+bare_loop x = record { at = nowhere; variable = bare_ident x.variable; first = bare_expr x.first; condition = bare_expr x.condition; stepped = bare_ident x.stepped; step = bare_expr x.step }
+
+abbrev pub stmt_step : Stmt-F Stmt CaseDefault CaseItem → Stmt
+stmt_step (Stmt-F.Assign at left when value) = stmt.Assign nowhere (bare_target left) (bare_timing when) (bare_expr value)
 stmt_step (Stmt-F.If at condition yes' no') = stmt.If nowhere (bare_expr condition) yes' no'
-stmt_step (Stmt-F.Block at statements) = stmt.Block nowhere statements
+stmt_step (Stmt-F.Case at kind selector before' default behind') = stmt.Case nowhere kind (bare_expr selector) before' default behind'
+stmt_step (Stmt-F.For at head body) = stmt.For nowhere (bare_loop head) body
+stmt_step (Stmt-F.Block at name statements) = stmt.Block nowhere (option_map bare_ident name) statements
+stmt_step (Stmt-F.Empty at) = stmt.Empty nowhere
+
+abbrev pub case_item_step : CaseItem-F Stmt CaseDefault CaseItem → CaseItem
+case_item_step x = record { labels = map bare_expr x.labels; body = x.body }
+
+abbrev pub case_default_step : CaseDefault-F Stmt CaseDefault CaseItem → CaseDefault
+case_default_step x = record { at = nowhere; has_colon = x.has_colon; body = x.body }
 
 abbrev pub bare_stmt : Stmt → Stmt
-bare_stmt = fold-Stmt Stmt stmt_step
+bare_stmt = fold-Stmt Stmt CaseDefault CaseItem stmt_step case_default_step case_item_step
+
+abbrev pub bare_case_item : CaseItem → CaseItem
+bare_case_item = fold-CaseItem Stmt CaseDefault CaseItem stmt_step case_default_step case_item_step
+
+abbrev pub bare_case_default : CaseDefault → CaseDefault
+bare_case_default = fold-CaseDefault Stmt CaseDefault CaseItem stmt_step case_default_step case_item_step
 
 -- ---- modules
 
 abbrev pub bare_range : Range → Range
 bare_range r = record { at = nowhere; left = bare_expr r.left; right = bare_expr r.right }
 
+abbrev pub bare_head : PortHead → PortHead
+bare_head h = record { at = nowhere; direction = h.direction; kind = h.kind; range = option_map bare_range h.range }
+
 abbrev pub bare_port : Port → Port
-bare_port p = record { at = nowhere; direction = p.direction; kind = p.kind; range = option_map bare_range p.range; name = bare_ident p.name; value = option_map bare_expr p.value }
+bare_port p = record { head = option_map bare_head p.head; name = bare_ident p.name; value = option_map bare_expr p.value }
+
+abbrev pub bare_net : Net → Net
+bare_net n = record { name = bare_ident n.name; value = option_map bare_expr n.value }
+
+abbrev pub bare_assign : Assign → Assign
+bare_assign a = record { target = bare_target a.target; value = bare_expr a.value }
 
 abbrev pub bare_event : Event → Event
-bare_event e = record { at = nowhere; edge = e.edge; name = bare_ident e.name }
+bare_event e = record { at = nowhere; separator = e.separator; edge = e.edge; name = bare_ident e.name; select = option_map bare_select e.select }
+
+abbrev pub bare_events : Events → Events
+bare_events (events.Star has_parens) = events.Star has_parens
+bare_events (events.List es) = events.List (map bare_event es)
 
 abbrev pub bare_item : Item → Item
-bare_item (item.Always a) = item.Always (record { at = nowhere; events = map bare_event a.events; body = bare_stmt a.body })
+bare_item (item.Nets n) = item.Nets (record { at = nowhere; kind = n.kind; range = option_map bare_range n.range; nets = map bare_net n.nets })
+bare_item (item.Integers n) = item.Integers (record { at = nowhere; names = map bare_ident n.names })
+bare_item (item.Assigns a) = item.Assigns (record { at = nowhere; assigns = map bare_assign a.assigns })
+bare_item (item.Always a) = item.Always (record { at = nowhere; events = bare_events a.events; body = bare_stmt a.body })
 
 abbrev pub bare_module : Module → Module
 bare_module m = record { at = nowhere; name = bare_ident m.name; ports = map bare_port m.ports; items = map bare_item m.items }

@@ -1,5 +1,6 @@
 -- The words of a tree: the bytes of its tokens, in order (IEEE 1364-2001 annex A).
 use Rattle.std.specs.Prelude.{ℕ, Bool, true, false, List, [], ◌∷◌, ◌++◌, map, Option, Some, None, option_map, codes}
+use Rattle.vlog_syntax.specs.declared.expr.Ident.{Ident}
 use Rattle.vlog_syntax.specs.declared.expr.UnaryOp.{UnaryOp}
 use Rattle.vlog_syntax.specs.declared.expr.UnaryOp.TheVariants as unary
 use Rattle.vlog_syntax.specs.declared.expr.BinaryOp.{BinaryOp}
@@ -15,8 +16,17 @@ use Rattle.vlog_syntax.specs.declared.stmt.Target.{Target}
 use Rattle.vlog_syntax.specs.declared.stmt.Target.TheOpen.{Target-F}
 use Rattle.vlog_syntax.specs.declared.stmt.Target.TheFolds.{fold-Target}
 use Rattle.vlog_syntax.specs.declared.stmt.Stmt.{Stmt}
-use Rattle.vlog_syntax.specs.declared.stmt.Stmt.TheOpen.{Stmt-F}
+use Rattle.vlog_syntax.specs.declared.stmt.Stmt.TheOpen.{Stmt-F, CaseItem-F, CaseDefault-F}
 use Rattle.vlog_syntax.specs.declared.stmt.Stmt.TheFolds.{fold-Stmt}
+use Rattle.vlog_syntax.specs.declared.stmt.CaseKind.{CaseKind}
+use Rattle.vlog_syntax.specs.declared.stmt.CaseKind.TheVariants as case_kind
+use Rattle.vlog_syntax.specs.declared.stmt.CaseItem.{CaseItem, fold-CaseItem}
+use Rattle.vlog_syntax.specs.declared.stmt.CaseDefault.{CaseDefault, fold-CaseDefault}
+use Rattle.vlog_syntax.specs.declared.stmt.Timing.{Timing}
+use Rattle.vlog_syntax.specs.declared.stmt.Timing.TheVariants as timing
+use Rattle.vlog_syntax.specs.declared.stmt.Delay.{Delay}
+use Rattle.vlog_syntax.specs.declared.stmt.Delay.TheVariants as delay
+use Rattle.vlog_syntax.specs.declared.stmt.Loop.{Loop}
 use Rattle.vlog_syntax.specs.declared.module.Direction.{Direction}
 use Rattle.vlog_syntax.specs.declared.module.Direction.TheVariants as direction
 use Rattle.vlog_syntax.specs.declared.module.NetKind.{NetKind}
@@ -24,10 +34,20 @@ use Rattle.vlog_syntax.specs.declared.module.NetKind.TheVariants as kind
 use Rattle.vlog_syntax.specs.declared.module.Edge.{Edge}
 use Rattle.vlog_syntax.specs.declared.module.Edge.TheVariants as edge
 use Rattle.vlog_syntax.specs.declared.module.Event.{Event}
+use Rattle.vlog_syntax.specs.declared.module.Events.{Events}
+use Rattle.vlog_syntax.specs.declared.module.Events.TheVariants as events
 use Rattle.vlog_syntax.specs.declared.module.Range.{Range}
 use Rattle.vlog_syntax.specs.declared.module.Port.{Port}
+use Rattle.vlog_syntax.specs.declared.module.PortHead.{PortHead}
+use Rattle.vlog_syntax.specs.declared.module.Net.{Net}
+use Rattle.vlog_syntax.specs.declared.module.Assign.{Assign}
+use Rattle.vlog_syntax.specs.declared.module.Separator.{Separator}
+use Rattle.vlog_syntax.specs.declared.module.Separator.TheVariants as separator
 use Rattle.vlog_syntax.specs.declared.module.Item.{Item}
 use Rattle.vlog_syntax.specs.declared.module.Item.TheVariants as item
+use Rattle.vlog_syntax.specs.declared.module.Nets.{Nets}
+use Rattle.vlog_syntax.specs.declared.module.Integers.{Integers}
+use Rattle.vlog_syntax.specs.declared.module.Assigns.{Assigns}
 use Rattle.vlog_syntax.specs.declared.module.Always.{Always}
 use Rattle.vlog_syntax.specs.declared.module.Module.{Module}
 use Rattle.vlog_syntax.specs.declared.module.Tree.{Tree}
@@ -157,13 +177,58 @@ target_step (Target-F.Concat at parts) = braced (between (codes ",") parts)
 abbrev pub target_words : Target → Words
 target_words = fold-Target Words target_step
 
-abbrev pub stmt_step : Stmt-F Words → Words
-stmt_step (Stmt-F.Nonblocking at target value) = target_words target ++ codes "<=" ∷ (expr_words value ++ codes ";" ∷ [])
+abbrev pub ident_words : Ident → Words
+ident_words x = x.name ∷ []
+
+abbrev pub delay_words : Delay → Words
+delay_words (delay.Number n) = n.text ∷ []
+delay_words (delay.Name x) = ident_words x
+
+abbrev pub timing_words : Timing → Words
+timing_words timing.Blocking = codes "=" ∷ []
+timing_words (timing.Nonblocking after) = codes "<=" ∷ behind_if_there (codes "#") (option_map delay_words after)
+
+abbrev pub case_text : CaseKind → List ℕ
+case_text case_kind.Case = codes "case"
+case_text case_kind.Casez = codes "casez"
+
+abbrev pub colon_words : Bool → Words
+colon_words true = codes ":" ∷ []
+colon_words false = []
+
+abbrev pub named_value_words : Ident → Expr → Words
+named_value_words x value = x.name ∷ codes "=" ∷ expr_words value
+
+abbrev pub turn_words : Loop → Words
+turn_words x = named_value_words x.variable x.first ++ codes ";" ∷ (expr_words x.condition ++ codes ";" ∷ named_value_words x.stepped x.step)
+
+abbrev pub loop_words : Loop → Words
+loop_words x = parenthesized (turn_words x)
+
+-- a statement, given the words of its parts
+abbrev pub stmt_step : Stmt-F Words Words Words → Words
+stmt_step (Stmt-F.Assign at target timing value) = target_words target ++ (timing_words timing ++ (expr_words value ++ codes ";" ∷ []))
 stmt_step (Stmt-F.If at condition yes' no') = codes "if" ∷ (parenthesized (expr_words condition) ++ (yes' ++ behind_if_there (codes "else") no'))
-stmt_step (Stmt-F.Block at statements) = codes "begin" ∷ (in_a_row statements ++ codes "end" ∷ [])
+stmt_step (Stmt-F.Case at kind selector before' default behind') =
+    case_text kind ∷ (parenthesized (expr_words selector) ++ (in_a_row before' ++ (if_there default ++ (in_a_row behind' ++ codes "endcase" ∷ []))))
+stmt_step (Stmt-F.For at head body) = codes "for" ∷ (loop_words head ++ body)
+stmt_step (Stmt-F.Block at name statements) = codes "begin" ∷ (behind_if_there (codes ":") (option_map ident_words name) ++ (in_a_row statements ++ codes "end" ∷ []))
+stmt_step (Stmt-F.Empty at) = codes ";" ∷ []
+
+abbrev pub case_item_step : CaseItem-F Words Words Words → Words
+case_item_step x = between (codes ",") (map expr_words x.labels) ++ codes ":" ∷ x.body
+
+abbrev pub case_default_step : CaseDefault-F Words Words Words → Words
+case_default_step x = codes "default" ∷ (colon_words x.has_colon ++ x.body)
 
 abbrev pub stmt_words : Stmt → Words
-stmt_words = fold-Stmt Words stmt_step
+stmt_words = fold-Stmt Words Words Words stmt_step case_default_step case_item_step
+
+abbrev pub case_item_words : CaseItem → Words
+case_item_words = fold-CaseItem Words Words Words stmt_step case_default_step case_item_step
+
+abbrev pub case_default_words : CaseDefault → Words
+case_default_words = fold-CaseDefault Words Words Words stmt_step case_default_step case_item_step
 
 -- ---- modules (clauses 9.7, 9.9 and 12)
 
@@ -177,22 +242,62 @@ kind_text kind.Reg = codes "reg"
 
 abbrev pub edge_text : Edge → List ℕ
 edge_text edge.Posedge = codes "posedge"
+edge_text edge.Negedge = codes "negedge"
+
+abbrev pub separator_text : Separator → List ℕ
+separator_text separator.Or = codes "or"
+separator_text separator.Comma = codes ","
 
 abbrev pub range_words : Range → Words
 range_words r = bracketed (expr_words r.left ++ codes ":" ∷ expr_words r.right)
 
+-- a name, with its value where it has one
+abbrev pub valued_words : Ident → Option Expr → Words
+valued_words x value = x.name ∷ behind_if_there (codes "=") (option_map expr_words value)
+
+abbrev pub head_words : PortHead → Words
+head_words h = direction_text h.direction ∷ (if_there (option_map (λ k. kind_text k ∷ []) h.kind) ++ if_there (option_map range_words h.range))
+
 abbrev pub port_words : Port → Words
-port_words p =
-    direction_text p.direction ∷ (if_there (option_map (λ k. kind_text k ∷ []) p.kind)
-    ++ (if_there (option_map range_words p.range) ++ p.name.name ∷ behind_if_there (codes "=") (option_map expr_words p.value)))
+port_words p = if_there (option_map head_words p.head) ++ valued_words p.name p.value
+
+abbrev pub net_words : Net → Words
+net_words n = valued_words n.name n.value
+
+abbrev pub nets_words : Nets → Words
+nets_words n = kind_text n.kind ∷ (if_there (option_map range_words n.range) ++ (between (codes ",") (map net_words n.nets) ++ codes ";" ∷ []))
+
+abbrev pub integers_words : Integers → Words
+integers_words n = codes "integer" ∷ (between (codes ",") (map ident_words n.names) ++ codes ";" ∷ [])
+
+abbrev pub assign_words : Assign → Words
+assign_words a = target_words a.target ++ codes "=" ∷ expr_words a.value
+
+abbrev pub assigns_words : Assigns → Words
+assigns_words a = codes "assign" ∷ (between (codes ",") (map assign_words a.assigns) ++ codes ";" ∷ [])
+
+-- an event without what stands before it
+abbrev pub lone_event_words : Event → Words
+lone_event_words e = if_there (option_map (λ k. edge_text k ∷ []) e.edge) ++ e.name.name ∷ if_there (option_map select_words e.select)
 
 abbrev pub event_words : Event → Words
-event_words e = if_there (option_map (λ k. edge_text k ∷ []) e.edge) ++ e.name.name ∷ []
+event_words e = if_there (option_map (λ k. separator_text k ∷ []) e.separator) ++ lone_event_words e
+
+abbrev pub star_words : Bool → Words
+star_words true = parenthesized (codes "*" ∷ [])
+star_words false = codes "*" ∷ []
+
+abbrev pub events_words : Events → Words
+events_words (events.Star has_parens) = star_words has_parens
+events_words (events.List es) = parenthesized (in_a_row (map event_words es))
 
 abbrev pub always_words : Always → Words
-always_words a = codes "always" ∷ codes "@" ∷ (parenthesized (between (codes "or") (map event_words a.events)) ++ stmt_words a.body)
+always_words a = codes "always" ∷ codes "@" ∷ (events_words a.events ++ stmt_words a.body)
 
 abbrev pub item_words : Item → Words
+item_words (item.Nets n) = nets_words n
+item_words (item.Integers n) = integers_words n
+item_words (item.Assigns a) = assigns_words a
 item_words (item.Always a) = always_words a
 
 abbrev pub module_words : Module → Words

@@ -213,7 +213,7 @@ fn write_repeated(out: &mut TokenText, exprs: &[Expr]) -> Result<(), AllocError>
 
 /// Writes the expressions with commas between them.
 #[cycle(expr)]
-fn write_commas(out: &mut TokenText, exprs: &[Expr]) -> Result<(), AllocError>
+pub fn write_commas(out: &mut TokenText, exprs: &[Expr]) -> Result<(), AllocError>
     ensures { OnOk result (out.new ≡ with_tokens out.old (spec.between (44 ∷ []) (map spec.expr_words exprs.now))) }
 {
     let mut is_first = true;

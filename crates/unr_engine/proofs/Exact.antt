@@ -4,7 +4,7 @@ use Rattle.unr_io.specs.declared.desk.Kind.TheVariants.{Load, Store}
 use Rattle.unr_io.specs.Desk.{DeskState, Told, Rose}
 use Rattle.unr_io.specs.Sink.{SinkState}
 use Rattle.vlog_syntax.specs.declared.module.Tree.{Tree}
-use Rattle.design_core.specs.declared.flat.Design.{Design}
+use Rattle.design_core.specs.Ordered.{Ordered}
 use Rattle.design_core.specs.declared.setup.Setup.{Setup}
 use Rattle.vlog_modules.specs.declared.error.TextError.{TextError}
 use Rattle.vlog_modules.specs.declared.error.TextError.TheVariants as text_error
@@ -14,7 +14,6 @@ use Rattle.vlog_expr.specs.declared.error.ParseError.TheVariants as parse_error
 use Rattle.vlog_modules.specs.Answers.{TextAnswers}
 use Rattle.vlog_modules.proofs.Once.{one_tree}
 use Rattle.cert_text.specs.declared.cert.Cert.{Cert}
-use Rattle.cert_text.specs.declared.cert.CertClaim.{CertClaim}
 use Rattle.cert_text.specs.declared.error.CertError.{CertError}
 use Rattle.cert_text.specs.declared.error.CertError.TheVariants as cert_error
 use Rattle.cert_text.specs.declared.claim.Claim.{Claim}
@@ -26,25 +25,14 @@ use Rattle.source_check.specs.declared.error.CheckError.{CheckError}
 use Rattle.source_check.specs.declared.error.CheckError.TheVariants as check_error
 use Rattle.cover_points.specs.declared.error.PointError.{PointError}
 use Rattle.cover_points.specs.declared.error.PointError.TheVariants as point_error
-use Rattle.cover_points.specs.declared.point.Point.{Point}
-use Rattle.elab_flat.proofs.OneDesign.{one_design}
 use Rattle.text_prover.proofs.OneAnswer.{tree_or_error}
 use Rattle.source_check.specs.Checking.{ReadAndJudged}
-use Rattle.bit_system.specs.Machine.{Machine}
-use Rattle.bit_system.specs.Accepted.{IsAccepted}
-use Rattle.bit_system.specs.declared.ladder.Depth.TheVariants.{All as Forever, Steps}
-use Rattle.bit_system.specs.declared.ladder.Ladder.{Ladder}
-use Rattle.ladder_check.specs.declared.fault.LadderFault.{LadderFault}
-use Rattle.ladder_check.specs.declared.fault.LadderFault.TheVariants as ladder
-use Rattle.ladder_check.proofs.Refused.{refused}
-use Rattle.plain_blast.specs.Cost.{cost_of}
-use Rattle.cert_text.specs.declared.cert.Body.{Body}
-use Rattle.cert_text.specs.declared.cert.Body.TheVariants.{Reached, Excluded, Open}
-use Rattle.source_check.specs.Legal.{IsElaborated, TooCostly, TooManyPoints}
-use Rattle.source_check.specs.Ladders.{state_names, ladder_of, LadderRefused}
-use Rattle.source_check.specs.Judging.{system_of, Judges, Holds, Accepted, FirstFault, Fails, FailFirst}
-use Rattle.cover_points.specs.Points.{points_of}
-use Rattle.unr_engine.specs.Statuses.{lex_status, text_status, cert_status, point_status, check_status, refusal_status, status_of}
+use Rattle.elab_check.specs.declared.error.LegalError.{LegalError}
+use Rattle.elab_check.specs.declared.error.LegalError.TheVariants as legal_error
+use Rattle.source_check.specs.Legal.{IsElaborated, IsIllegal, TooManyPoints}
+use Rattle.source_check.specs.Judging.{Judges, FailFirst}
+use Rattle.source_check.proofs.Once.{accepted_or_fails, legal_or_illegal, few_or_many}
+use Rattle.unr_engine.specs.Statuses.{lex_status, text_status, cert_status, point_status, legal_status, check_status, refusal_status, status_of}
 use Rattle.unr_engine.specs.declared.stop.Refusal.{Refusal}
 use Rattle.unr_engine.specs.declared.stop.Refusal.TheVariants as refusal
 use Rattle.unr_engine.specs.Words.{Check_files, Names}
@@ -67,61 +55,10 @@ cert_or_none text cert cert_error.Memory a b = refl
 one_cert : (text : List ℕ) (cert other : Cert) → CertAnswers text (Ok cert) → CertAnswers text (Ok other) → cert ≡ other
 one_cert text cert other a b = one_certificate cert other a.0 b.0 (sym a.1 ∙ b.1)
 
--- a ladder that is refused isn't accepted
-shows_or_not : (m : Machine) (k : ℕ) (l : Ladder) (f : LadderFault) → IsAccepted m k l → LadderRefused m k l f → ⊥
-shows_or_not m k l ladder.Shape a r = refused m k l ladder.Shape r (λ e. cc) a
-shows_or_not m k l (ladder.StartFails n) a r = refused m k l (ladder.StartFails n) r (λ e. cc) a
-shows_or_not m k l (ladder.Line query fault) a r = refused m k l (ladder.Line query fault) r (λ e. cc) a
-shows_or_not m k l ladder.Memory a r = r
-
--- what holds of a point doesn't fail
-holds_or_fails : (m : Machine) (d : Design) (setup : Setup) (k : ℕ) (p : Point) (body : Body) (fault : CheckError) → Holds m d setup k p body → Fails m d setup k p body fault → ⊥
-holds_or_fails m d setup k p (Reached cycle stimulus) fault h f = f.0 h
-holds_or_fails m d setup k p (Excluded l) fault h f = shows_or_not m k (ladder_of (state_names m.states) Forever l) f.0 h f.2
-holds_or_fails m d setup k p (Open cycles l) fault h f = shows_or_not m k (ladder_of (state_names m.states) (Steps cycles) l) f.0 h f.2
-
--- claims that are accepted have no fault
-no_fault : (m : Machine) (d : Design) (setup : Setup) (k : ℕ) (points : List Point) (claims : List CertClaim) (fault : CheckError) → Accepted m d setup k points claims →
-    FirstFault m d setup k points claims fault → ⊥
-no_fault m d setup k [] [] fault a f = f
-no_fault m d setup k [] (c ∷ cs) fault a f = a
-no_fault m d setup k (p ∷ ps) [] fault a f = a
-no_fault m d setup k (p ∷ ps) (c ∷ cs) fault a f =
-    elim f [
-      | inl other ↦ other.0 a.0
-      | inr more ↦ elim more [
-        | inl untrue ↦ holds_or_fails m d setup k p c.body fault a.1 untrue.1
-        | inr later ↦ no_fault m d setup (k + 1) ps cs fault a.2 later.2
-      ]
-    ]
-
-accepted_or_fails : (tree : Tree) (cert : Cert) (claims : List Claim) (fault : CheckError) → Judges tree cert (Ok claims) → FailFirst tree cert fault → ⊥
-accepted_or_fails tree cert claims fault a f =
-    let same = one_design tree cert.setup f.0 a.0 f.1.design a.1.design in
-    no_fault (system_of a.0 cert.setup) a.0 cert.setup 0 (points_of a.0 cert.setup) cert.claims fault a.2
-    (let P : Design → Type 0 = λ d. FirstFault (system_of d cert.setup) d cert.setup 0 (points_of d cert.setup) cert.claims fault in subst P same f.2)
-
--- a design that may be taken doesn't cost too much
-pub cheap_or_costly : (tree : Tree) (setup : Setup) (d : Design) (cost : ℕ) → IsElaborated tree setup d → TooCostly tree setup cost → ⊥
-cheap_or_costly tree setup d cost a b =
-    let same = one_design tree setup d b.0 a.design b.1 in
-    let cheap = a.cheap in
-    let dear = b.2 in
-    omega (arith, ap cost_of same)
-
--- and hasn't too many points
-pub few_or_many : (tree : Tree) (setup : Setup) (d : Design) (error : PointError) → IsElaborated tree setup d → TooManyPoints tree setup error → ⊥
-few_or_many tree setup d (point_error.TooMany number) a b =
-    let same = one_design tree setup d b.0 a.design b.1.design in
-    let few = a.few in
-    let many = b.2 in
-    omega (arith, ap (λ (x : Design). length (points_of x setup)) same)
-few_or_many tree setup d point_error.Memory a b = b
-
 accepted_or_none : (tree : Tree) (cert : Cert) (claims : List Claim) (error : CheckError) → Judges tree cert (Ok claims) → Judges tree cert (Err error) → check_status error ≡ 7
 accepted_or_none tree cert claims (check_error.Source (source_error.Text error)) a b = absurd b
-accepted_or_none tree cert claims (check_error.Source (source_error.NotBuilt place)) a b = absurd (b.0 (a.0, a.1.design))
-accepted_or_none tree cert claims (check_error.Source (source_error.CostOver cost)) a b = absurd (cheap_or_costly tree cert.setup a.0 cost a.1 b)
+accepted_or_none tree cert claims (check_error.Source (source_error.NotBuilt place)) a b = absurd (b.0 (a.0.design, a.1.design))
+accepted_or_none tree cert claims (check_error.Source (source_error.Illegal error)) a b = absurd (legal_or_illegal tree cert.setup a.0 error a.1 b)
 accepted_or_none tree cert claims (check_error.Source (source_error.Points error)) a b = absurd (few_or_many tree cert.setup a.0 error a.1 b)
 accepted_or_none tree cert claims (check_error.Source source_error.Memory) a b = absurd b
 accepted_or_none tree cert claims (check_error.Cert error) a b = absurd b
@@ -133,7 +70,7 @@ accepted_or_none tree cert claims check_error.Memory a b = refl
 
 -- a refusal of the one for the other: the text has no design that may be taken, or it has one and the claims fail, or memory ran out
 abbrev MayBeTaken : Tree → Setup → Type 0
-MayBeTaken tree setup = (d : Design) × IsElaborated tree setup d
+MayBeTaken tree setup = (l : Ordered) × IsElaborated tree setup l
 
 abbrev RefusedFor : Tree → Setup → ℕ → Type 0
 RefusedFor tree setup status = ((status ≡ 4) × (MayBeTaken tree setup → ⊥)) ⊎ (((status ≡ 5) × MayBeTaken tree setup) ⊎ (status ≡ 7))
@@ -145,10 +82,31 @@ refused_points : (tree : Tree) (setup : Setup) (error : PointError) → TooManyP
 refused_points tree setup (point_error.TooMany number) b = inl (refl, λ x. few_or_many tree setup x.0 (point_error.TooMany number) x.1 b)
 refused_points tree setup point_error.Memory b = absurd b
 
+pub legal_four : (error : LegalError) → (legal_status error ≡ 4) ⊎ (legal_status error ≡ 7)
+legal_four (legal_error.ClockUse at) = inl refl
+legal_four (legal_error.AssignKind at) = inl refl
+legal_four (legal_error.ResetForm at) = inl refl
+legal_four (legal_error.TwoDrivers bit) = inl refl
+legal_four (legal_error.Undriven bit) = inl refl
+legal_four (legal_error.ListMissing at bit) = inl refl
+legal_four (legal_error.Incomplete at bit) = inl refl
+legal_four (legal_error.CombLoop bits) = inl refl
+legal_four (legal_error.CostOver cost) = inl refl
+legal_four legal_error.Memory = inr refl
+
+-- a design that isn't legal isn't taken, whatever rule it breaks
+legal_refused : (tree : Tree) (setup : Setup) (error : LegalError) → IsIllegal tree setup error → RefusedFor tree setup (legal_status error)
+legal_refused tree setup error b =
+    let four : (legal_status error ≡ 4) ⊎ (legal_status error ≡ 7) = legal_four error in
+    elim four [
+      | inl here ↦ inl (here, λ x. legal_or_illegal tree setup x.0 error x.1 b)
+      | inr here ↦ inr (inr here)
+    ]
+
 refused_for : (tree : Tree) (cert : Cert) (error : CheckError) → Judges tree cert (Err error) → RefusedFor tree cert.setup (check_status error)
 refused_for tree cert (check_error.Source (source_error.Text error)) b = absurd b
-refused_for tree cert (check_error.Source (source_error.NotBuilt place)) b = inl (refl, λ x. b.0 (x.0, x.1.design))
-refused_for tree cert (check_error.Source (source_error.CostOver cost)) b = inl (refl, λ x. cheap_or_costly tree cert.setup x.0 cost x.1 b)
+refused_for tree cert (check_error.Source (source_error.NotBuilt place)) b = inl (refl, λ x. b.0 (x.0.design, x.1.design))
+refused_for tree cert (check_error.Source (source_error.Illegal error)) b = legal_refused tree cert.setup error b
 refused_for tree cert (check_error.Source (source_error.Points error)) b = refused_points tree cert.setup error b
 refused_for tree cert (check_error.Source source_error.Memory) b = absurd b
 refused_for tree cert (check_error.Cert error) b = absurd b

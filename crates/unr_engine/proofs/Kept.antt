@@ -15,6 +15,8 @@ use Rattle.cert_text.specs.declared.error.CertError.{CertError}
 use Rattle.cert_text.specs.declared.error.CertError.TheVariants as cert
 use Rattle.cover_points.specs.declared.error.PointError.{PointError}
 use Rattle.cover_points.specs.declared.error.PointError.TheVariants as point_error
+use Rattle.elab_check.specs.declared.error.LegalError.{LegalError}
+use Rattle.elab_check.specs.declared.error.LegalError.TheVariants as legal_error
 use Rattle.source_check.specs.declared.error.SourceError.{SourceError}
 use Rattle.source_check.specs.declared.error.SourceError.TheVariants as source
 use Rattle.source_check.specs.declared.error.CheckError.{CheckError}
@@ -24,7 +26,7 @@ use Rattle.unr_engine.specs.declared.stop.Refusal.TheVariants as refusal
 use Rattle.unr_engine.specs.Words.{Command, Check_files, Prove_file, Names, NamesNothing}
 use Rattle.unr_engine.specs.Content.{Work, Answers}
 use Rattle.unr_engine.specs.Ends.{End, Done, Stopped, Not_words, Fault_at, Fault_of_output, Out_of_memory, Not_taken}
-use Rattle.unr_engine.specs.Statuses.{lex_status, parse_status, text_status, cert_status, point_status, source_status, check_status, refusal_status, status_of}
+use Rattle.unr_engine.specs.Statuses.{lex_status, parse_status, text_status, cert_status, point_status, legal_status, source_status, check_status, refusal_status, status_of}
 use Rattle.unr_engine.specs.Messages.{message_of}
 use Rattle.unr_engine.specs.Outcome.{IsFrontOf, next_load, load_calls, loads_of, stores_of, Written, store_calls, failed_call, DeskKept, HasReason, Ran, Ended, Says, Outcome}
 use Rattle.unr_engine.specs.Promises.{AreTold, Accepts, Rejects, calls_for, stores_at, all_calls, MakesCalls, CalledLast, Blames, PutsPart, FilesStay, IsNoneOf, OthersStay}
@@ -63,10 +65,22 @@ of_point : (error : PointError) → IsRefusalStatus (point_status error)
 of_point (point_error.TooMany number) = inl refl
 of_point point_error.Memory = inr (inr refl)
 
+of_legal : (error : LegalError) → IsRefusalStatus (legal_status error)
+of_legal (legal_error.ClockUse at) = inl refl
+of_legal (legal_error.AssignKind at) = inl refl
+of_legal (legal_error.ResetForm at) = inl refl
+of_legal (legal_error.TwoDrivers bit) = inl refl
+of_legal (legal_error.Undriven bit) = inl refl
+of_legal (legal_error.ListMissing at bit) = inl refl
+of_legal (legal_error.Incomplete at bit) = inl refl
+of_legal (legal_error.CombLoop bits) = inl refl
+of_legal (legal_error.CostOver cost) = inl refl
+of_legal legal_error.Memory = inr (inr refl)
+
 of_source : (error : SourceError) → IsRefusalStatus (source_status error)
 of_source (source.Text error) = of_text error
 of_source (source.NotBuilt place) = inl refl
-of_source (source.CostOver cost) = inl refl
+of_source (source.Illegal error) = of_legal error
 of_source (source.Points error) = of_point error
 of_source source.Memory = inr (inr refl)
 

@@ -11,7 +11,7 @@ use Rattle.vlog_modules.specs.declared.error.TextError.{TextError}
 use Rattle.vlog_modules.specs.declared.error.TextError.TheVariants as text_error
 use Rattle.vlog_modules.specs.Answers.{TextAnswers}
 use Rattle.vlog_modules.proofs.Once.{one_tree}
-use Rattle.design_core.specs.declared.flat.Design.{Design}
+use Rattle.design_core.specs.Ordered.{Ordered}
 use Rattle.design_core.specs.declared.setup.Setup.{Setup}
 use Rattle.cover_points.specs.declared.error.PointError.{PointError}
 use Rattle.cover_points.specs.declared.error.PointError.TheVariants as point_error
@@ -32,7 +32,8 @@ use Rattle.unr_engine.specs.Statuses.{point_status, source_status, refusal_statu
 use Rattle.unr_engine.specs.Messages.{message_of}
 use Rattle.unr_engine.specs.Outcome.{IsFrontOf, IsFrontOfFile, AreLoaded, loads_of, Written, failed_call, DeskKept, HasReason, Ran, Says, Outcome}
 use Rattle.unr_engine.specs.Promises.{AreTold, HasText, AreStored, Proves, ProofRefused, Fits, ListComesLast}
-use Rattle.unr_engine.proofs.Exact.{text_or_none, one_front, cheap_or_costly, few_or_many, text_four, same_or_memory}
+use Rattle.source_check.proofs.Once.{legal_or_illegal, few_or_many}
+use Rattle.unr_engine.proofs.Exact.{text_or_none, one_front, text_four, legal_four, same_or_memory}
 use Rattle.unr_engine.proofs.Kept.{told_of, ran_of, apart, of_refusal, done_small, not_empty, zero_or_one}
 use Rattle.unr_engine.proofs.Runs.{tells_so}
 
@@ -94,7 +95,7 @@ point_four point_error.Memory = inr refl
 source_four : (error : SourceError) → (source_status error ≡ 4) ⊎ (source_status error ≡ 7)
 source_four (source.Text error) = text_four error
 source_four (source.NotBuilt place) = inl refl
-source_four (source.CostOver cost) = inl refl
+source_four (source.Illegal error) = legal_four error
 source_four (source.Points error) = point_four error
 source_four source.Memory = inr refl
 
@@ -148,8 +149,8 @@ never_five_of {words} {status} {desk} {desk'} {out} {out'} o file top clock pref
 record HasDesign (text : List ℕ) (setup : Setup) : Type 0 where
   tree : Tree
   of_text : TextAnswers text (Ok tree)
-  design : Design
-  elaborated : IsElaborated tree setup design
+  legal : Ordered
+  elaborated : IsElaborated tree setup legal
 
 refused_text : (text : List ℕ) (error : TextError) → TextRefused text error → TextAnswers text (Err error)
 refused_text text (text_error.TooLong count) r = r
@@ -162,26 +163,26 @@ design_or_none : (text : List ℕ) (setup : Setup) (error : SourceError) → Has
 design_or_none text setup (source.Text error) h r = text_or_none text h.tree error h.of_text (refused_text text error r)
 design_or_none text setup (source.NotBuilt place) h r =
     let same = one_tree text h.tree r.0 h.of_text r.1 in
-    let P : Tree → Type 0 = λ t. IsElaborated t setup h.design in
+    let P : Tree → Type 0 = λ t. IsElaborated t setup h.legal in
     let there = subst P same h.elaborated in
-    absurd (r.2 (h.design, there.design))
-design_or_none text setup (source.CostOver cost) h r =
+    absurd (r.2 (h.legal.design, there.design))
+design_or_none text setup (source.Illegal error) h r =
     let same = one_tree text h.tree r.0 h.of_text r.1 in
-    let P : Tree → Type 0 = λ t. IsElaborated t setup h.design in
-    absurd (cheap_or_costly r.0 setup h.design cost (subst P same h.elaborated) r.2)
+    let P : Tree → Type 0 = λ t. IsElaborated t setup h.legal in
+    absurd (legal_or_illegal r.0 setup h.legal error (subst P same h.elaborated) r.2)
 design_or_none text setup (source.Points error) h r =
     let same = one_tree text h.tree r.0 h.of_text r.1 in
-    let P : Tree → Type 0 = λ t. IsElaborated t setup h.design in
-    absurd (few_or_many r.0 setup h.design error (subst P same h.elaborated) r.2)
+    let P : Tree → Type 0 = λ t. IsElaborated t setup h.legal in
+    absurd (few_or_many r.0 setup h.legal error (subst P same h.elaborated) r.2)
 design_or_none text setup source.Memory h r = refl
 
 of_front : (text : List ℕ) (setup : Setup) (front : Front) → FrontAnswers text setup (Ok front) → HasDesign text setup
-of_front text setup front a = record { tree = a.0; of_text = a.1; design = front.legal.design; elaborated = a.2 }
+of_front text setup front a = record { tree = a.0; of_text = a.1; legal = front.legal; elaborated = a.2 }
 
 of_proven : (text top clock : List ℕ) (kinds : Kinds) (effort : ℕ) (p : Proven) → IsProven text top clock kinds effort p → HasDesign text (setup_of top clock kinds)
 of_proven text top clock kinds effort p h =
     let P : Setup → Type 0 = λ s. IsElaborated h.tree s h.accepted.0 in
-    record { tree = h.tree; of_text = h.of_text; design = h.accepted.0; elaborated = subst P h.setup h.accepted.1 }
+    record { tree = h.tree; of_text = h.of_text; legal = h.accepted.0; elaborated = subst P h.setup h.accepted.1 }
 
 -- a run that is done fits
 done_fits : (text : List ℕ) (setup : Setup) (answer : Result Front SourceError) (left_open : Bool) → HasDesign text setup → FrontAnswers text setup answer → Fits answer (status_of (Done left_open))

@@ -11,6 +11,8 @@ use Rattle.cert_text.specs.declared.error.CertError.{CertError}
 use Rattle.cert_text.specs.declared.error.CertError.TheVariants as cert
 use Rattle.cover_points.specs.declared.error.PointError.{PointError}
 use Rattle.cover_points.specs.declared.error.PointError.TheVariants as point
+use Rattle.elab_check.specs.declared.error.LegalError.{LegalError}
+use Rattle.elab_check.specs.declared.error.LegalError.TheVariants as legal
 use Rattle.source_check.specs.declared.error.SourceError.{SourceError}
 use Rattle.source_check.specs.declared.error.SourceError.TheVariants as source
 use Rattle.source_check.specs.declared.error.CheckError.{CheckError}
@@ -60,10 +62,35 @@ abbrev pub point_message : PointError → List ℕ
 point_message (point.TooMany number) = codes "unr: source TooMany " ++ (decimal number ++ codes "\n")
 point_message point.Memory = memory_message
 
+-- a message that names a bit of the design
+abbrev pub bit_message : List ℕ → List ℕ → List ℕ
+bit_message what bit = codes "unr: source " ++ (what ++ (bit ++ codes "\n"))
+
+-- and one that names a place too
+abbrev pub place_bit_message : Place → List ℕ → List ℕ → List ℕ
+place_bit_message place what bit = place_message place (what ++ (bit ++ codes "\n"))
+
+-- of a loop the first bit is named
+abbrev pub first_bit : List (List ℕ) → List ℕ
+first_bit [] = []
+first_bit (b ∷ bs) = b
+
+abbrev pub legal_message : LegalError → List ℕ
+legal_message (legal.ClockUse at) = place_message at (codes " ClockUse\n")
+legal_message (legal.AssignKind at) = place_message at (codes " AssignKind\n")
+legal_message (legal.ResetForm at) = place_message at (codes " ResetForm\n")
+legal_message (legal.TwoDrivers bit) = bit_message (codes "TwoDrivers ") bit.name
+legal_message (legal.Undriven bit) = bit_message (codes "Undriven ") bit.name
+legal_message (legal.ListMissing at bit) = place_bit_message at (codes " ListMissing ") bit.name
+legal_message (legal.Incomplete at bit) = place_bit_message at (codes " Incomplete ") bit.name
+legal_message (legal.CombLoop bits) = bit_message (codes "CombLoop ") (first_bit bits)
+legal_message (legal.CostOver cost) = codes "unr: source CostOver " ++ (decimal cost ++ codes "\n")
+legal_message legal.Memory = memory_message
+
 abbrev pub source_message : SourceError → List ℕ
 source_message (source.Text error) = text_message error
 source_message (source.NotBuilt place) = place_message place (codes " NotBuilt\n")
-source_message (source.CostOver cost) = codes "unr: source CostOver " ++ (decimal cost ++ codes "\n")
+source_message (source.Illegal error) = legal_message error
 source_message (source.Points error) = point_message error
 source_message source.Memory = memory_message
 

@@ -10,6 +10,8 @@ use Rattle.cert_text.specs.declared.error.CertError.{CertError}
 use Rattle.cert_text.specs.declared.error.CertError.TheVariants as cert
 use Rattle.cover_points.specs.declared.error.PointError.{PointError}
 use Rattle.cover_points.specs.declared.error.PointError.TheVariants as point
+use Rattle.elab_check.specs.declared.error.LegalError.{LegalError}
+use Rattle.elab_check.specs.declared.error.LegalError.TheVariants as legal
 use Rattle.source_check.specs.declared.error.SourceError.{SourceError}
 use Rattle.source_check.specs.declared.error.SourceError.TheVariants as source
 use Rattle.source_check.specs.declared.error.CheckError.{CheckError}
@@ -45,10 +47,22 @@ abbrev pub point_status : PointError → ℕ
 point_status (point.TooMany number) = 4
 point_status point.Memory = 7
 
+abbrev pub legal_status : LegalError → ℕ
+legal_status (legal.ClockUse at) = 4
+legal_status (legal.AssignKind at) = 4
+legal_status (legal.ResetForm at) = 4
+legal_status (legal.TwoDrivers bit) = 4
+legal_status (legal.Undriven bit) = 4
+legal_status (legal.ListMissing at bit) = 4
+legal_status (legal.Incomplete at bit) = 4
+legal_status (legal.CombLoop bits) = 4
+legal_status (legal.CostOver cost) = 4
+legal_status legal.Memory = 7
+
 abbrev pub source_status : SourceError → ℕ
 source_status (source.Text error) = text_status error
 source_status (source.NotBuilt place) = 4
-source_status (source.CostOver cost) = 4
+source_status (source.Illegal error) = legal_status error
 source_status (source.Points error) = point_status error
 source_status source.Memory = 7
 

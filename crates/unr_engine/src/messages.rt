@@ -2,12 +2,13 @@
 ghost use Rattle.std.specs.Prelude.{◌≡◌};
 ghost use Rattle.unr_io.specs.Sink.{Puts};
 ghost use Rattle.unr_engine.specs.Ends.{why_of};
-ghost use Rattle.unr_engine.specs.Messages.{memory_message, place_message, lex_message, text_message, parse_message, cert_message, point_message, source_message, line_name, line_number, step_message, hit_message, ladder_message, check_message, refusal_message, why_message};
+ghost use Rattle.unr_engine.specs.Messages.{memory_message, place_message, lex_message, text_message, parse_message, cert_message, point_message, bit_message, place_bit_message, first_bit, legal_message, source_message, line_name, line_number, step_message, hit_message, ladder_message, check_message, refusal_message, why_message};
 
 use crate::pieces::{Piece, put_all};
 use crate::stop::{Refusal, Stop, ending_text};
 use cert_text::CertError;
 use cover_points::PointError;
+use elab_check::LegalError;
 use ladder_check::{LadderFault, Query, QueryFault};
 use lrat_check::LineFault;
 use source_check::{CheckError, SourceError};
@@ -122,13 +123,62 @@ fn say_point_error<E: Sink>(err: &mut E, error: &PointError) -> Result<(), SinkE
     }
 }
 
-fn say_source_error<E: Sink>(err: &mut E, error: &SourceError) -> Result<(), SinkError>
-    ensures { Puts (source_message error.now) result (E.state err.old) (E.state err.new) }
+/// Says what is wrong with a bit of the design.
+fn say_bit<E: Sink>(err: &mut E, what: &[u8], bit: &[u8]) -> Result<(), SinkError>
+    ensures { Puts (bit_message what.now bit.now) result (E.state err.old) (E.state err.new) }
+{
+    put_all(
+        err,
+        &[
+            Piece::Text(b"unr: source "),
+            Piece::Text(what),
+            Piece::Text(bit),
+            Piece::Text(b"\n"),
+        ],
+    )
+}
+
+/// Says what is wrong with a bit in a process at this place.
+fn say_bit_at<E: Sink>(err: &mut E, at: Place, what: &[u8], bit: &Name) -> Result<(), SinkError>
+    ensures { Puts (place_bit_message at what.now bit.now) result (E.state err.old) (E.state err.new) }
+{
+    put_all(
+        err,
+        &[
+            Piece::Text(b"unr: source "),
+            Piece::Number(u64::from(at.line)),
+            Piece::Text(b":"),
+            Piece::Number(u64::from(at.col)),
+            Piece::Text(what),
+            Piece::Text(bit.bytes()),
+            Piece::Text(b"\n"),
+        ],
+    )
+}
+
+/// The first of the bits of a loop.
+fn first_bit(bits: &[Name]) -> &[u8]
+    ensures { result.now ≡ first_bit bits.now }
+{
+    match bits {
+        [first, ..] => first.bytes(),
+        [] => b"",
+    }
+}
+
+fn say_legal_error<E: Sink>(err: &mut E, error: &LegalError) -> Result<(), SinkError>
+    ensures { Puts (legal_message error.now) result (E.state err.old) (E.state err.new) }
 {
     match error {
-        SourceError::Text(error) => say_text_error(err, error),
-        SourceError::NotBuilt { at } => say_at(err, *at, b" NotBuilt\n"),
-        SourceError::CostOver { cost } => put_all(
+        LegalError::ClockUse { at } => say_at(err, *at, b" ClockUse\n"),
+        LegalError::AssignKind { at } => say_at(err, *at, b" AssignKind\n"),
+        LegalError::ResetForm { at } => say_at(err, *at, b" ResetForm\n"),
+        LegalError::TwoDrivers { bit } => say_bit(err, b"TwoDrivers ", bit.bytes()),
+        LegalError::Undriven { bit } => say_bit(err, b"Undriven ", bit.bytes()),
+        LegalError::ListMissing { at, bit } => say_bit_at(err, *at, b" ListMissing ", bit),
+        LegalError::Incomplete { at, bit } => say_bit_at(err, *at, b" Incomplete ", bit),
+        LegalError::CombLoop { bits } => say_bit(err, b"CombLoop ", first_bit(bits.as_slice())),
+        LegalError::CostOver { cost } => put_all(
             err,
             &[
                 Piece::Text(b"unr: source CostOver "),
@@ -136,6 +186,17 @@ fn say_source_error<E: Sink>(err: &mut E, error: &SourceError) -> Result<(), Sin
                 Piece::Text(b"\n"),
             ],
         ),
+        LegalError::Memory => say_memory(err),
+    }
+}
+
+fn say_source_error<E: Sink>(err: &mut E, error: &SourceError) -> Result<(), SinkError>
+    ensures { Puts (source_message error.now) result (E.state err.old) (E.state err.new) }
+{
+    match error {
+        SourceError::Text(error) => say_text_error(err, error),
+        SourceError::NotBuilt { at } => say_at(err, *at, b" NotBuilt\n"),
+        SourceError::Illegal(error) => say_legal_error(err, error),
         SourceError::Points(error) => say_point_error(err, error),
         SourceError::Memory => say_memory(err),
     }

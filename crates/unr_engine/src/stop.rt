@@ -1,10 +1,11 @@
 // Why a run does not do what its words say, and the status of that.
 ghost use Rattle.std.specs.Prelude.{◌≡◌};
-ghost use Rattle.unr_engine.specs.Statuses.{lex_status, text_status, cert_status, point_status, source_status, check_status, refusal_status, why_status};
+ghost use Rattle.unr_engine.specs.Statuses.{lex_status, text_status, cert_status, point_status, legal_status, source_status, check_status, refusal_status, why_status};
 ghost use Rattle.unr_engine.specs.Ends.{why_of, ending_text};
 
 use cert_text::CertError;
 use cover_points::PointError;
+use elab_check::LegalError;
 use source_check::{CheckError, SourceError};
 use std::alloc::AllocError;
 use vlog_modules::{ParseError, TextError};
@@ -155,13 +156,22 @@ fn point_status(error: &PointError) -> u8
     }
 }
 
+fn legal_status(error: &LegalError) -> u8
+    ensures { result ≡ legal_status error.now }
+{
+    match error {
+        LegalError::Memory => 7,
+        _ => 4,
+    }
+}
+
 fn source_status(error: &SourceError) -> u8
     ensures { result ≡ source_status error.now }
 {
     match error {
         SourceError::Text(error) => text_status(error),
         SourceError::NotBuilt { .. } => 4,
-        SourceError::CostOver { .. } => 4,
+        SourceError::Illegal(error) => legal_status(error),
         SourceError::Points(error) => point_status(error),
         SourceError::Memory => 7,
     }

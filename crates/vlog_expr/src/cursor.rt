@@ -2,7 +2,7 @@ ghost use Rattle.std.specs.Prelude.{◌≡◌, length, if◌then◌else◌, [], 
 ghost use Rattle.parsing.specs.declared.fault.Fault.TheVariants.{Expected, TooDeep};
 ghost use Rattle.parsing.specs.Reading.{Reads, stands, begins, next, after};
 ghost use Rattle.vlog_tokens.specs.declared.word.Word.TheVariants as w;
-ghost use Rattle.vlog_rules.specs.Grammar.{V, sign_words, operator_word, other_operators};
+ghost use Rattle.vlog_rules.specs.Grammar.{V, sign_words, whole_words, operator_word, other_operators};
 ghost use Rattle.vlog_expr.specs.Reading.{passed};
 
 use parsing::Fault;
@@ -158,6 +158,17 @@ impl<'a, 't> Cursor<'a, 't> {
             || self.stands(Word::Caret)
             || self.stands(Word::TildeCaret)
             || self.stands(Word::CaretTilde)
+    }
+
+    /// Whether an expression begins here.
+    pub fn is_expression(&self) -> bool
+        ensures { result ≡ begins V whole_words self.now }
+    {
+        self.is_sign()
+            || self.stands(Word::Number)
+            || self.stands(Word::Name)
+            || self.stands(Word::OpenBrace)
+            || self.stands(Word::OpenParen)
     }
 
     /// Whether an operator of these rows stands here.

@@ -41,7 +41,7 @@ fn second(
     below: usize,
 ) -> Result<Tall<Option<(PartKind, Boxed<Expr>)>>, Fault>
     requires some { 0 < below }
-    requires limit { below < 256 }
+    requires limit { below ≤ 256 }
     ensures reads { Reads (form_at below grammar.second cursor.old) result cursor.new }
     ensures within { IfOk result (λ x. x.height ≤ below) }
 {
@@ -60,7 +60,7 @@ fn second(
     })
 }
 
-/// A select, in a node with so many levels below it.
+/// A select, in a node with so many levels below it, or in none.
 #[cycle(expr)]
 #[tactic(auto, unfolding(vlog_rules::specs::Grammar::selected))]
 pub fn selected(
@@ -69,7 +69,7 @@ pub fn selected(
     below: usize,
 ) -> Result<Tall<Select>, Fault>
     requires some { 0 < below }
-    requires limit { below < 256 }
+    requires limit { below ≤ 256 }
     ensures reads { Reads (form_at below grammar.selected cursor.old) result cursor.new }
     ensures within { IfOk result (λ x. x.height ≤ below) }
 {
@@ -210,9 +210,10 @@ fn further(
     commas(alloc, cursor, below, found)
 }
 
+/// Expressions with commas between them, in a node with so many levels below it.
 #[cycle(expr)]
 #[tactic(auto, unfolding(vlog_rules::specs::Grammar::exprs))]
-fn exprs(
+pub fn exprs(
     alloc: Global,
     cursor: &mut Cursor<'_, '_>,
     below: usize,

@@ -12,6 +12,6 @@ mod refusal;
 pub use answer::expression;
 pub use cursor::Cursor;
 pub use error::ParseError;
-pub use expressions::{MAX_LEVELS, expr, selected};
+pub use expressions::{MAX_LEVELS, expr, exprs, selected};
 pub use leaf::ident;
 pub use refusal::error_of;

@@ -1,2 +1,3 @@
+pub mod Bare
 pub mod Causes
 pub mod Once

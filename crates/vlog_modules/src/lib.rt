@@ -1,8 +1,12 @@
 //! Verilog texts to syntax trees.
 #![tactic(auto)]
 
+mod assign;
 mod error;
+mod events;
+mod heads;
 mod items;
+mod nets;
 mod ports;
 mod stmts;
 mod targets;

@@ -4,14 +4,14 @@ ghost use Rattle.vlog_tokens.specs.declared.word.Word.TheVariants as w;
 ghost use Rattle.vlog_rules.specs.Grammar as grammar;
 ghost use Rattle.vlog_rules.specs.Grammar.{V, maybe};
 ghost use Rattle.vlog_expr.specs.Reading.{read_by};
-ghost use Rattle.vlog_modules.specs.Reading.{more_ports};
+ghost use Rattle.vlog_modules.specs.Reading.{further};
 
 use parsing::Fault;
 use sqlite_items::Items;
 use std::alloc::Global;
 use vlog_expr::{Cursor, MAX_LEVELS, expr, ident};
 use vlog_rules::Level;
-use vlog_syntax::{Direction, Expr, NetKind, Port, Range};
+use vlog_syntax::{Direction, Expr, NetKind, Port, PortHead, Range};
 use vlog_tokens::Word;
 
 // The functions below read what their forms of the grammar say.
@@ -22,7 +22,8 @@ fn is_direction(cursor: &Cursor<'_, '_>) -> bool
     cursor.stands(Word::Input) || cursor.stands(Word::Output)
 }
 
-fn is_net_kind(cursor: &Cursor<'_, '_>) -> bool
+/// Whether a kind of net stands here.
+pub fn is_net_kind(cursor: &Cursor<'_, '_>) -> bool
     ensures { result ≡ begins V (w.Wire ∷ w.Reg ∷ []) cursor.now }
 {
     cursor.stands(Word::Wire) || cursor.stands(Word::Reg)
@@ -39,8 +40,9 @@ fn direction_of(word: Word) -> Direction
     }
 }
 
+/// The kind of net that such a word says.
 #[tactic(auto, unfolding(vlog_rules::specs::Grammar::same, vlog_rules::specs::Grammar::net_kind_of))]
-fn net_kind_of(word: Word) -> NetKind
+pub fn net_kind_of(word: Word) -> NetKind
     ensures { result ≡ grammar.net_kind_of word }
 {
     if word == Word::Wire {
@@ -80,9 +82,9 @@ fn range(alloc: Global, cursor: &mut Cursor<'_, '_>) -> Result<Range, Fault>
     })
 }
 
-/// The range of a port, where one is written.
+/// The range of a port or a net, where one is written.
 #[tactic(auto, unfolding(vlog_rules::specs::Grammar::range))]
-fn maybe_range(alloc: Global, cursor: &mut Cursor<'_, '_>) -> Result<Option<Range>, Fault>
+pub fn maybe_range(alloc: Global, cursor: &mut Cursor<'_, '_>) -> Result<Option<Range>, Fault>
     ensures { Reads (read_by (maybe grammar.range) cursor.old) result cursor.new }
 {
     if !cursor.stands(Word::OpenBracket) {
@@ -92,9 +94,9 @@ fn maybe_range(alloc: Global, cursor: &mut Cursor<'_, '_>) -> Result<Option<Rang
     Ok(Some(found))
 }
 
-/// The starting value of a port, where one is written.
+/// The value behind a port or a net, where one is written.
 #[tactic(auto, unfolding(vlog_rules::specs::Grammar::start_value))]
-fn start_value(alloc: Global, cursor: &mut Cursor<'_, '_>) -> Result<Option<Expr>, Fault>
+pub fn start_value(alloc: Global, cursor: &mut Cursor<'_, '_>) -> Result<Option<Expr>, Fault>
     ensures { Reads (read_by (maybe grammar.start_value) cursor.old) result cursor.new }
 {
     if !cursor.stands(Word::Equals) {
@@ -105,9 +107,9 @@ fn start_value(alloc: Global, cursor: &mut Cursor<'_, '_>) -> Result<Option<Expr
     Ok(Some(found.tree))
 }
 
-#[tactic(auto, unfolding(vlog_rules::specs::Grammar::port))]
-fn port(alloc: Global, cursor: &mut Cursor<'_, '_>) -> Result<Port, Fault>
-    ensures { Reads (read_by grammar.port cursor.old) result cursor.new }
+#[tactic(auto, unfolding(vlog_rules::specs::Grammar::port_head))]
+fn port_head(alloc: Global, cursor: &mut Cursor<'_, '_>) -> Result<PortHead, Fault>
+    ensures { Reads (read_by grammar.port_head cursor.old) result cursor.new }
 {
     if !is_direction(cursor) {
         return Err(cursor.refuse(b"port"));
@@ -117,16 +119,52 @@ fn port(alloc: Global, cursor: &mut Cursor<'_, '_>) -> Result<Port, Fault>
     cursor.skip();
     let kind = net_kind(cursor)?;
     let range = maybe_range(alloc, cursor)?;
-    let name = ident(alloc, cursor)?;
-    let value = start_value(alloc, cursor)?;
-    Ok(Port {
+    Ok(PortHead {
         at,
         direction,
         kind,
         range,
+    })
+}
+
+/// A port that is written in full.
+#[tactic(auto, unfolding(vlog_rules::specs::Grammar::full_port))]
+fn full_port(alloc: Global, cursor: &mut Cursor<'_, '_>) -> Result<Port, Fault>
+    ensures { Reads (read_by grammar.full_port cursor.old) result cursor.new }
+{
+    let head = port_head(alloc, cursor)?;
+    let name = ident(alloc, cursor)?;
+    let value = start_value(alloc, cursor)?;
+    Ok(Port {
+        head: Some(head),
         name,
         value,
     })
+}
+
+/// A port that continues the one before.
+#[tactic(auto, unfolding(vlog_rules::specs::Grammar::continued_port))]
+fn continued_port(alloc: Global, cursor: &mut Cursor<'_, '_>) -> Result<Port, Fault>
+    ensures { Reads (read_by grammar.continued_port cursor.old) result cursor.new }
+{
+    let name = ident(alloc, cursor)?;
+    let value = start_value(alloc, cursor)?;
+    Ok(Port {
+        head: None,
+        name,
+        value,
+    })
+}
+
+#[tactic(auto, unfolding(vlog_rules::specs::Grammar::port, vlog_rules::specs::Grammar::full_port, vlog_rules::specs::Grammar::port_head))]
+fn port(alloc: Global, cursor: &mut Cursor<'_, '_>) -> Result<Port, Fault>
+    ensures { Reads (read_by grammar.port cursor.old) result cursor.new }
+{
+    if is_direction(cursor) {
+        full_port(alloc, cursor)
+    } else {
+        continued_port(alloc, cursor)
+    }
 }
 
 #[tactic(auto, unfolding(vlog_rules::specs::Grammar::comma_port))]
@@ -145,7 +183,7 @@ fn further_ports(
     cursor: &mut Cursor<'_, '_>,
     mut found: Items<Port>,
 ) -> Result<Items<Port>, Fault>
-    ensures { Reads (more_ports (length cursor.old) found cursor.old) result cursor.new }
+    ensures { Reads (further grammar.comma_port (length cursor.old) found cursor.old) result cursor.new }
 {
     for _turn in 0..cursor.left() {
         if !cursor.stands(Word::Comma) {
@@ -163,7 +201,7 @@ pub fn ports(alloc: Global, cursor: &mut Cursor<'_, '_>) -> Result<Items<Port>, 
     ensures { Reads (read_by grammar.ports cursor.old) result cursor.new }
 {
     cursor.expect(Word::OpenParen, b"(")?;
-    let first = port(alloc, cursor)?;
+    let first = full_port(alloc, cursor)?;
     let mut found = Items::new(alloc);
     found.push(first)?;
     let found = further_ports(alloc, cursor, found)?;

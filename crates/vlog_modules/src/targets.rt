@@ -3,7 +3,7 @@ ghost use Rattle.parsing.specs.Reading.{Reads};
 ghost use Rattle.parsing.specs.Forms.{node};
 ghost use Rattle.vlog_rules.specs.Grammar as grammar;
 ghost use Rattle.vlog_expr.specs.Reading.{form_at, rule_at};
-ghost use Rattle.vlog_modules.specs.Reading.{target_at, targets_at};
+ghost use Rattle.vlog_modules.specs.Reading.{target_at, more_at};
 
 use parsing::{Fault, Tall};
 use sqlite_items::Items;
@@ -85,7 +85,7 @@ fn commas(
     requires some { 0 < below }
     requires tallest { found.height ≤ below }
     requires limit { below < 256 }
-    ensures reads { Reads (targets_at below (length cursor.old) found cursor.old) result cursor.new }
+    ensures reads { Reads (more_at grammar.comma_target below (length cursor.old) found cursor.old) result cursor.new }
     ensures within { IfOk result (λ x. x.height ≤ below) }
 {
     for _turn in 0..cursor.left() {

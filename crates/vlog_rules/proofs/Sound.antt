@@ -11,7 +11,7 @@ use Rattle.vlog_rules.specs.declared.level.Rows.TheVariants as rows
 use Rattle.vlog_rules.specs.declared.level.Level.TheVariants as level
 use Rattle.vlog_rules.specs.declared.level.Sort.{Sort}
 use Rattle.vlog_rules.specs.declared.level.Sort.TheVariants as sort
-use Rattle.vlog_rules.specs.Grammar.{V, firsts, mores, same, ident, number, kind_of_part, second, selected, name, paren, comma_expr, exprs, repeated, further, braced, brace, primary, sign_of, signed, unary, tighter, operator_word, other_operators, operator_of, operand, operands, starts, product, sum, shift, order, equality, conjoined, differing, disjoined, conjunction, disjunction, row, arms, choice, expr_rules, named_target, comma_target, targets, joined_target, target_rule, target_starts, assign, tested, other_branch, branches, branch, statements, block, stmt_rule, rules, range, net_kinds, start_value, port, comma_port, ports, event, events, always, items, module_form, source}
+use Rattle.vlog_rules.specs.Grammar.{V, firsts, mores, same, ident, number, kind_of_part, second, selected, name, paren, comma_expr, exprs, repeated, further, braced, brace, primary, sign_of, signed, unary, tighter, operator_word, other_operators, operator_of, operand, operands, starts, product, sum, shift, order, equality, conjoined, differing, disjoined, conjunction, disjunction, row, arms, choice, expr_rules, named_target, comma_target, targets, joined_target, target_rule, target_starts, delayed, timed, assign, tested, other_branch, branches, branch, case_kind_of, case_item, case_items, maybe_colon, case_default, default_on, some_items, items_on, cases, selection, named_value, stepped, loop_head, turned, statements, block_name, block, empty, stmt_rule, rules, range, net_kinds, start_value, port_head, full_port, continued_port, port, comma_port, ports, net, comma_net, net_list, nets, comma_ident, ident_list, integers, continuous, comma_continuous, continuous_list, assigns, edge_of, separator_of, event_name, edge_event, plain_event, event, further_event, event_list, inner_events, all_events, always, one_item, items, module_form, source}
 
 -- a text of each word
 spelling : Word → List ℕ
@@ -172,7 +172,7 @@ sort_rank sort.Stmt = 1
 sort_rank _ = 0
 
 is_sound : (s : Sort) → rule_sound V firsts mores (rules s) ≡ true
-unfolding same ident number kind_of_part second selected name paren comma_expr exprs repeated further braced brace primary sign_of signed unary tighter operator_word other_operators operator_of operand operands starts product sum shift order equality conjoined differing disjoined conjunction disjunction row arms choice expr_rules named_target comma_target targets joined_target target_rule target_starts assign tested other_branch branches branch statements block stmt_rule rules
+unfolding same ident number kind_of_part second selected name paren comma_expr exprs repeated further braced brace primary sign_of signed unary tighter operator_word other_operators operator_of operand operands starts product sum shift order equality conjoined differing disjoined conjunction disjunction row arms choice expr_rules named_target comma_target targets joined_target target_rule target_starts delayed timed assign tested other_branch branches branch case_kind_of case_item case_items maybe_colon case_default default_on some_items items_on cases selection named_value stepped loop_head turned statements block_name block empty stmt_rule rules
 is_sound (sort.Expr level.Primary) = refl
 is_sound (sort.Expr level.Unary) = refl
 is_sound (sort.Expr level.Whole) = refl
@@ -190,7 +190,7 @@ is_sound sort.Target = refl
 is_sound sort.Stmt = refl
 
 begin : (s : Sort) → rule_first V firsts (rules s) ≡ firsts s
-unfolding same ident number kind_of_part second selected name paren comma_expr exprs repeated further braced brace primary sign_of signed unary tighter operator_word other_operators operator_of operand operands starts product sum shift order equality conjoined differing disjoined conjunction disjunction row arms choice expr_rules named_target comma_target targets joined_target target_rule target_starts assign tested other_branch branches branch statements block stmt_rule rules
+unfolding same ident number kind_of_part second selected name paren comma_expr exprs repeated further braced brace primary sign_of signed unary tighter operator_word other_operators operator_of operand operands starts product sum shift order equality conjoined differing disjoined conjunction disjunction row arms choice expr_rules named_target comma_target targets joined_target target_rule target_starts delayed timed assign tested other_branch branches branch case_kind_of case_item case_items maybe_colon case_default default_on some_items items_on cases selection named_value stepped loop_head turned statements block_name block empty stmt_rule rules
 begin (sort.Expr level.Primary) = refl
 begin (sort.Expr level.Unary) = refl
 begin (sort.Expr level.Whole) = refl
@@ -208,7 +208,7 @@ begin sort.Target = refl
 begin sort.Stmt = refl
 
 continue : (s : Sort) → inside V (rule_more V firsts mores (rules s)) (mores s) ≡ true
-unfolding same ident number kind_of_part second selected name paren comma_expr exprs repeated further braced brace primary sign_of signed unary tighter operator_word other_operators operator_of operand operands starts product sum shift order equality conjoined differing disjoined conjunction disjunction row arms choice expr_rules named_target comma_target targets joined_target target_rule target_starts assign tested other_branch branches branch statements block stmt_rule rules
+unfolding same ident number kind_of_part second selected name paren comma_expr exprs repeated further braced brace primary sign_of signed unary tighter operator_word other_operators operator_of operand operands starts product sum shift order equality conjoined differing disjoined conjunction disjunction row arms choice expr_rules named_target comma_target targets joined_target target_rule target_starts delayed timed assign tested other_branch branches branch case_kind_of case_item case_items maybe_colon case_default default_on some_items items_on cases selection named_value stepped loop_head turned statements block_name block empty stmt_rule rules
 continue (sort.Expr level.Primary) = refl
 continue (sort.Expr level.Unary) = refl
 continue (sort.Expr level.Whole) = refl
@@ -226,7 +226,7 @@ continue sort.Target = refl
 continue sort.Stmt = refl
 
 is_led : (s : Sort) → rule_led V (λ n. nat_lt (sort_rank n) (sort_rank s)) (rules s) ≡ true
-unfolding same ident number kind_of_part second selected name paren comma_expr exprs repeated further braced brace primary sign_of signed unary tighter operator_word other_operators operator_of operand operands starts product sum shift order equality conjoined differing disjoined conjunction disjunction row arms choice expr_rules named_target comma_target targets joined_target target_rule target_starts assign tested other_branch branches branch statements block stmt_rule rules
+unfolding same ident number kind_of_part second selected name paren comma_expr exprs repeated further braced brace primary sign_of signed unary tighter operator_word other_operators operator_of operand operands starts product sum shift order equality conjoined differing disjoined conjunction disjunction row arms choice expr_rules named_target comma_target targets joined_target target_rule target_starts delayed timed assign tested other_branch branches branch case_kind_of case_item case_items maybe_colon case_default default_on some_items items_on cases selection named_value stepped loop_head turned statements block_name block empty stmt_rule rules
 is_led (sort.Expr level.Primary) = refl
 is_led (sort.Expr level.Unary) = refl
 is_led (sort.Expr level.Whole) = refl
@@ -244,7 +244,7 @@ is_led sort.Target = refl
 is_led sort.Stmt = refl
 
 is_shallow : (s : Sort) → shallow V (rules s) ≡ true
-unfolding same ident number kind_of_part second selected name paren comma_expr exprs repeated further braced brace primary sign_of signed unary tighter operator_word other_operators operator_of operand operands starts product sum shift order equality conjoined differing disjoined conjunction disjunction row arms choice expr_rules named_target comma_target targets joined_target target_rule target_starts assign tested other_branch branches branch statements block stmt_rule rules
+unfolding same ident number kind_of_part second selected name paren comma_expr exprs repeated further braced brace primary sign_of signed unary tighter operator_word other_operators operator_of operand operands starts product sum shift order equality conjoined differing disjoined conjunction disjunction row arms choice expr_rules named_target comma_target targets joined_target target_rule target_starts delayed timed assign tested other_branch branches branch case_kind_of case_item case_items maybe_colon case_default default_on some_items items_on cases selection named_value stepped loop_head turned statements block_name block empty stmt_rule rules
 is_shallow (sort.Expr level.Primary) = refl
 is_shallow (sort.Expr level.Unary) = refl
 is_shallow (sort.Expr level.Whole) = refl
@@ -265,5 +265,5 @@ pub grammar_sound : Sound V rules firsts mores
 grammar_sound = record { is_sound = is_sound; begin = begin; continue = continue; rank = sort_rank; is_led = is_led; is_shallow = is_shallow }
 
 pub source_sound : sound V firsts mores source ≡ true
-unfolding same ident range net_kinds start_value port comma_port ports event events always items module_form source
+unfolding same ident selected second range net_kinds start_value port_head full_port continued_port port comma_port ports net comma_net net_list nets comma_ident ident_list integers continuous comma_continuous continuous_list assigns edge_of separator_of event_name edge_event plain_event event further_event event_list inner_events all_events always one_item items module_form source
 source_sound = refl

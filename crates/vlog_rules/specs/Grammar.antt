@@ -1,5 +1,5 @@
 -- The grammar of a text, with all expressions (IEEE 1364-2001 annex A, as far as it is built).
-use Rattle.std.specs.Prelude.{ℕ, Bool, List, [], ◌∷◌, Option, Some, None, if◌then◌else◌}
+use Rattle.std.specs.Prelude.{ℕ, Bool, true, false, List, [], ◌∷◌, Option, Some, None, if◌then◌else◌}
 use denote.Enum.Bare.{sameb}
 use Rattle.vlog_tokens.specs.contracts.word.Word.{the_type}
 use Rattle.vlog_tokens.specs.declared.word.Word.{Word}
@@ -15,12 +15,29 @@ use Rattle.vlog_syntax.specs.declared.module.NetKind.{NetKind}
 use Rattle.vlog_syntax.specs.declared.module.NetKind.TheVariants as net_kind
 use Rattle.vlog_syntax.specs.declared.module.Range.{Range}
 use Rattle.vlog_syntax.specs.declared.module.Port.{Port}
+use Rattle.vlog_syntax.specs.declared.module.PortHead.{PortHead}
+use Rattle.vlog_syntax.specs.declared.module.Net.{Net}
+use Rattle.vlog_syntax.specs.declared.module.Assign.{Assign}
 use Rattle.vlog_syntax.specs.declared.module.Item.{Item}
 use Rattle.vlog_syntax.specs.declared.module.Item.TheVariants as item
+use Rattle.vlog_syntax.specs.declared.module.Events.{Events}
+use Rattle.vlog_syntax.specs.declared.module.Events.TheVariants as events
 use Rattle.vlog_syntax.specs.declared.module.Event.{Event}
+use Rattle.vlog_syntax.specs.declared.module.Separator.{Separator}
+use Rattle.vlog_syntax.specs.declared.module.Separator.TheVariants as separator
+use Rattle.vlog_syntax.specs.declared.module.Edge.{Edge}
 use Rattle.vlog_syntax.specs.declared.module.Edge.TheVariants as edge
 use Rattle.vlog_syntax.specs.declared.stmt.Stmt.{Stmt}
 use Rattle.vlog_syntax.specs.declared.stmt.Stmt.TheVariants as stmt
+use Rattle.vlog_syntax.specs.declared.stmt.CaseItem.{CaseItem}
+use Rattle.vlog_syntax.specs.declared.stmt.CaseDefault.{CaseDefault}
+use Rattle.vlog_syntax.specs.declared.stmt.CaseKind.{CaseKind}
+use Rattle.vlog_syntax.specs.declared.stmt.CaseKind.TheVariants as case_kind
+use Rattle.vlog_syntax.specs.declared.stmt.Timing.{Timing}
+use Rattle.vlog_syntax.specs.declared.stmt.Timing.TheVariants as timing
+use Rattle.vlog_syntax.specs.declared.stmt.Delay.{Delay}
+use Rattle.vlog_syntax.specs.declared.stmt.Delay.TheVariants as delay
+use Rattle.vlog_syntax.specs.declared.stmt.Loop.{Loop}
 use Rattle.vlog_syntax.specs.declared.stmt.Target.{Target, out-Target}
 use Rattle.vlog_syntax.specs.declared.stmt.Target.TheOpen.{Target-F}
 use Rattle.vlog_syntax.specs.declared.stmt.Target.TheVariants as target
@@ -330,10 +347,19 @@ target_starts_by (Target-F.Concat at parts) = at
 unfoldable pub target_starts : Target → Place
 target_starts x = target_starts_by (out-Target x)
 
--- ---- statements
+-- ---- assignments
+
+-- a delay is one token, so it has no level
+unfoldable pub delayed : Form V Delay
+delayed = behind w.Hash (either (made (λ t. delay.Number (record { at = t.at; text = t.text })) (mark w.Number)) (made delay.Name ident))
+
+unfoldable pub timed : Form V Timing
+timed = either (made (λ t. timing.Blocking) (mark w.Equals)) (made timing.Nonblocking (behind w.AtMost (maybe delayed)))
 
 unfoldable pub assign : Form V Stmt
-assign = made (λ x. stmt.Nonblocking (target_starts x.0) x.0 x.1) (both (part sort.Target) (behind w.AtMost (before whole w.Semicolon)))
+assign = made (λ x. stmt.Assign (target_starts x.0) x.0 x.1.0 x.1.1) (both (part sort.Target) (both timed (before whole w.Semicolon)))
+
+-- ---- `if`
 
 unfoldable pub tested : Form V Expr
 tested = bracketed whole
@@ -348,14 +374,75 @@ branches = tailed (part sort.Stmt) (w.Else ∷ []) other_branch
 unfoldable pub branch : Form V Stmt
 branch = made (λ x. stmt.If x.0.at x.1.0 x.1.1.0 x.1.1.1) (both (mark w.If) (both tested branches))
 
+-- ---- `case`
+
+unfoldable pub case_kind_of : Word → CaseKind
+case_kind_of v = if same v w.Case then case_kind.Case else case_kind.Casez
+
+unfoldable pub case_item : Form V CaseItem
+case_item = made (λ x. record { labels = x.0; body = x.1 }) (both exprs (behind w.Colon (part sort.Stmt)))
+
+unfoldable pub case_items : Form V (List CaseItem)
+case_items = many case_item
+
+unfoldable pub maybe_colon : Form V Bool
+maybe_colon = either (made (λ t. true) (mark w.Colon)) (made (λ x. false) nothing)
+
+unfoldable pub case_default : Form V CaseDefault
+case_default = made (λ x. record { at = x.0.at; has_colon = x.1.0; body = x.1.1 }) (both (mark w.Default) (both maybe_colon (part sort.Stmt)))
+
+-- the default, and the items behind it
+unfoldable pub default_on : Form V (CaseDefault × List CaseItem)
+default_on = both case_default case_items
+
+unfoldable pub some_items : Form V (List CaseItem)
+some_items = run case_item case_item
+
+unfoldable pub items_on : Form V (List CaseItem × Option (CaseDefault × List CaseItem))
+items_on = both some_items (maybe default_on)
+
+-- items and at most one default
+unfoldable pub cases : Form V (List CaseItem × Option (CaseDefault × List CaseItem))
+cases = either (made (λ x. ([], Some x)) default_on) items_on
+
+abbrev pub case_of : Place → CaseKind → Expr → List CaseItem → Option (CaseDefault × List CaseItem) → Stmt
+case_of at kind x before' None = stmt.Case at kind x before' None []
+case_of at kind x before' (Some d) = stmt.Case at kind x before' (Some d.0) d.1
+
+unfoldable pub selection : Form V Stmt
+selection = made (λ x. case_of x.0.at (case_kind_of (word_of x.0.text)) x.1.0 x.1.1.0 x.1.1.1) (both (token w.Case (w.Casez ∷ [])) (both tested (before cases w.Endcase)))
+
+-- ---- `for`
+
+unfoldable pub named_value : Form V (Ident × Expr)
+named_value = both ident (behind w.Equals whole)
+
+unfoldable pub stepped : Form V (Ident × Expr)
+stepped = behind w.Semicolon (before named_value w.CloseParen)
+
+unfoldable pub loop_head : Form V Loop
+loop_head = made (λ x. record { at = x.0.at; variable = x.1.0.0; first = x.1.0.1; condition = x.1.1.0; stepped = x.1.1.1.0; step = x.1.1.1.1 })
+    (both (mark w.OpenParen) (both named_value (both (behind w.Semicolon whole) stepped)))
+
+unfoldable pub turned : Form V Stmt
+turned = made (λ x. stmt.For x.0.at x.1.0 x.1.1) (both (mark w.For) (both loop_head (part sort.Stmt)))
+
+-- ---- statements
+
 unfoldable pub statements : Form V (List Stmt)
 statements = many (part sort.Stmt)
 
+unfoldable pub block_name : Form V (Option Ident)
+block_name = maybe (behind w.Colon ident)
+
 unfoldable pub block : Form V Stmt
-block = made (λ x. stmt.Block x.0.at x.1) (both (mark w.Begin) (before statements w.End))
+block = made (λ x. stmt.Block x.0.at x.1.0 x.1.1) (both (mark w.Begin) (both block_name (before statements w.End)))
+
+unfoldable pub empty : Form V Stmt
+empty = made (λ t. stmt.Empty t.at) (mark w.Semicolon)
 
 unfoldable pub stmt_rule : Rule V Stmt
-stmt_rule = one_of (node assign) (one_of (node branch) (node block))
+stmt_rule = one_of (node assign) (one_of (node branch) (one_of (node selection) (one_of (node turned) (one_of (node block) (node empty)))))
 
 -- ---- the rules of parts that nest
 
@@ -375,7 +462,7 @@ abbrev pub firsts : Sort → List Word
 firsts (sort.Expr level.Primary) = primary_words
 firsts (sort.Expr _) = whole_words
 firsts sort.Target = w.Name ∷ w.OpenBrace ∷ []
-firsts sort.Stmt = w.Name ∷ w.OpenBrace ∷ w.If ∷ w.Begin ∷ []
+firsts sort.Stmt = w.Name ∷ w.OpenBrace ∷ w.If ∷ w.Case ∷ w.Casez ∷ w.For ∷ w.Begin ∷ w.Semicolon ∷ []
 
 -- the words that may go on with a row
 abbrev pub product_mores : List Word
@@ -446,33 +533,113 @@ net_kind_of v = if same v w.Wire then net_kind.Wire else net_kind.Reg
 unfoldable pub net_kinds : Form V (Option NetKind)
 net_kinds = maybe (made (λ t. net_kind_of (word_of t.text)) (token w.Wire (w.Reg ∷ [])))
 
--- the value that a port starts with
+-- the value that a net has or a variable starts with
 unfoldable pub start_value : Form V Expr
 start_value = behind w.Equals whole
 
+unfoldable pub port_head : Form V PortHead
+port_head = made (λ x. record { at = x.0.at; direction = direction_of (word_of x.0.text); kind = x.1.0; range = x.1.1 })
+    (both (token w.Input (w.Output ∷ [])) (both net_kinds (maybe range)))
+
+-- a port that is written in full
+unfoldable pub full_port : Form V Port
+full_port = made (λ x. record { head = Some x.0; name = x.1.0; value = x.1.1 }) (both port_head (both ident (maybe start_value)))
+
+-- a port that continues the one before
+unfoldable pub continued_port : Form V Port
+continued_port = made (λ x. record { head = None; name = x.0; value = x.1 }) (both ident (maybe start_value))
+
 unfoldable pub port : Form V Port
-port = made (λ x. record { at = x.0.at; direction = direction_of (word_of x.0.text); kind = x.1.0; range = x.1.1.0; name = x.1.1.1.0; value = x.1.1.1.1 })
-    (both (token w.Input (w.Output ∷ [])) (both net_kinds (both (maybe range) (both ident (maybe start_value)))))
+port = either full_port continued_port
 
 unfoldable pub comma_port : Form V Port
 comma_port = behind w.Comma port
 
 unfoldable pub ports : Form V (List Port)
-ports = bracketed (run port comma_port)
+ports = bracketed (run full_port comma_port)
+
+-- ---- nets, variables and what is assigned at any time
+
+unfoldable pub net : Form V Net
+net = made (λ x. record { name = x.0; value = x.1 }) (both ident (maybe start_value))
+
+unfoldable pub comma_net : Form V Net
+comma_net = behind w.Comma net
+
+unfoldable pub net_list : Form V (List Net)
+net_list = before (run net comma_net) w.Semicolon
+
+unfoldable pub nets : Form V Item
+nets = made (λ x. item.Nets (record { at = x.0.at; kind = net_kind_of (word_of x.0.text); range = x.1.0; nets = x.1.1 }))
+    (both (token w.Wire (w.Reg ∷ [])) (both (maybe range) net_list))
+
+unfoldable pub comma_ident : Form V Ident
+comma_ident = behind w.Comma ident
+
+unfoldable pub ident_list : Form V (List Ident)
+ident_list = before (run ident comma_ident) w.Semicolon
+
+unfoldable pub integers : Form V Item
+integers = made (λ x. item.Integers (record { at = x.0.at; names = x.1 })) (both (mark w.Integer) ident_list)
+
+unfoldable pub continuous : Form V Assign
+continuous = made (λ x. record { target = x.0; value = x.1 }) (both (part sort.Target) (behind w.Equals whole))
+
+unfoldable pub comma_continuous : Form V Assign
+comma_continuous = behind w.Comma continuous
+
+unfoldable pub continuous_list : Form V (List Assign)
+continuous_list = before (run continuous comma_continuous) w.Semicolon
+
+unfoldable pub assigns : Form V Item
+assigns = made (λ x. item.Assigns (record { at = x.0.at; assigns = x.1 })) (both (mark w.Assign) continuous_list)
 
 -- ---- processes
 
-unfoldable pub event : Form V Event
-event = made (λ x. record { at = x.0.at; edge = Some edge.Posedge; name = x.1 }) (both (mark w.Posedge) ident)
+unfoldable pub edge_of : Word → Edge
+edge_of v = if same v w.Posedge then edge.Posedge else edge.Negedge
 
-unfoldable pub events : Form V (List Event)
-events = behind w.At (bracketed (made (λ x. x ∷ []) event))
+unfoldable pub separator_of : Word → Separator
+separator_of v = if same v w.Or then separator.Or else separator.Comma
+
+unfoldable pub event_name : Form V (Ident × Option Select)
+event_name = both ident (maybe selected)
+
+unfoldable pub edge_event : Form V Event
+edge_event = made (λ x. record { at = x.0.at; separator = None; edge = Some (edge_of (word_of x.0.text)); name = x.1.0; select = x.1.1 }) (both (token w.Posedge (w.Negedge ∷ [])) event_name)
+
+unfoldable pub plain_event : Form V Event
+plain_event = made (λ x. record { at = x.0.at; separator = None; edge = None; name = x.0; select = x.1 }) event_name
+
+unfoldable pub event : Form V Event
+event = either edge_event plain_event
+
+abbrev pub further_of : Separator → Event → Event
+further_of behind' x = record { at = x.at; separator = Some behind'; edge = x.edge; name = x.name; select = x.select }
+
+-- an event behind another one
+unfoldable pub further_event : Form V Event
+further_event = made (λ x. further_of (separator_of (word_of x.0.text)) x.1) (both (token w.Or (w.Comma ∷ [])) event)
+
+unfoldable pub event_list : Form V Events
+event_list = made events.List (run event further_event)
+
+unfoldable pub inner_events : Form V Events
+inner_events = either (made (λ t. events.Star true) (mark w.Star)) event_list
+
+unfoldable pub all_events : Form V Events
+all_events = behind w.At (either (made (λ t. events.Star false) (mark w.Star)) (bracketed inner_events))
 
 unfoldable pub always : Form V Item
-always = made (λ x. item.Always (record { at = x.0.at; events = x.1.0; body = x.1.1 })) (both (mark w.Always) (both events (part sort.Stmt)))
+always = made (λ x. item.Always (record { at = x.0.at; events = x.1.0; body = x.1.1 })) (both (mark w.Always) (both all_events (part sort.Stmt)))
+
+-- ---- items
+
+unfoldable pub one_item : Form V Item
+one_item = either nets (either integers (either assigns always))
 
 unfoldable pub items : Form V (List Item)
-items = many always
+items = many one_item
 
 -- ---- the text
 
@@ -487,6 +654,6 @@ source = made (λ x. record { modules = x ∷ [] }) module_form
 abbrev pub IsExpr : ℕ → Expr → List Token → Type 0
 IsExpr = Derives V rules whole
 
--- The tokens are those of the text with this tree, with at most so many expressions, targets and statements on the way from an `always` to each one, itself counted.
+-- The tokens are those of the text with this tree, with at most so many expressions, targets and statements on the way from an item to each one, itself counted.
 abbrev pub IsSource : ℕ → Tree → List Token → Type 0
 IsSource = Derives V rules source

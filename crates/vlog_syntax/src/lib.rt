@@ -9,5 +9,8 @@ mod module;
 mod stmt;
 
 pub use expr::{BinaryOp, Expr, Ident, Number, Operand, PartKind, Select, UnaryOp};
-pub use module::{Always, Direction, Edge, Event, Item, Module, NetKind, Port, Range, Tree};
-pub use stmt::{Stmt, Target};
+pub use module::{
+    Always, Assign, Assigns, Direction, Edge, Event, Events, Integers, Item, Module, Net, NetKind,
+    Nets, Port, PortHead, Range, Separator, Tree,
+};
+pub use stmt::{CaseDefault, CaseItem, CaseKind, Delay, Loop, Stmt, Target, Timing};

@@ -7,6 +7,7 @@ use Rattle.bit_exprs.specs.Updates.{perform}
 use Rattle.design_core.specs.Exec.{Effect, exec}
 use Rattle.cycle_model.specs.Flags.{flagged}
 use Rattle.cycle_model.proofs.Blocks.{Held, within_item, block_more, block_done, branch_within, branch_then, branch_else}
+use Rattle.cycle_model.proofs.Choices.{choice_within, item_within, labels_formed, site_within, item_taken, default_taken}
 use Rattle.cycle_model.proofs.execute.+execute.Goals as goal
 
 pub execute-requires : goal.execute-requires
@@ -79,3 +80,63 @@ pub returns-after-loop-s-clause-marks : goal.returns-after-loop-s-clause-marks
 returns-after-loop-s-clause-marks t c =
     ap (λ (h : Held). h.marks) (block_done _ _ _ _ (record { values = c.loop-s.values; next = c.loop-s.next; marks = c.loop-s.marks }) (record { values = c.args.values.now; next = c.args.next.now; marks = c.args.marks.now })
     c.in-Block.is c.as_slice-s-items.ensures c.loop-s-test.false c.loop-s.invariant)
+
+-- ---- a choice
+
+pub items_before-before-requires-clause-items : goal.items_before-before-requires-clause-items
+items_before-before-requires-clause-items t c = labels_formed _ _ _ _ _ _ _ c.in-Choice.is c.as_slice-items.ensures _ _ c.requires.within
+
+pub overflow_add-marks-in-Choice : goal.overflow_add-marks-in-Choice
+overflow_add-marks-in-Choice t c =
+    search (rules, site_within _ _ _ _ _ _ _ c.in-Choice.is c.as_slice-items.ensures _ _ c.items_before-before.result c.args.values.now c.requires.within c.items_before-before.ensures)
+
+pub bounds-marks-site-in-Choice : goal.bounds-marks-site-in-Choice
+bounds-marks-site-in-Choice t c = site_within _ _ _ _ _ _ _ c.in-Choice.is c.as_slice-items.ensures _ _ c.items_before-before.result c.args.values.now c.requires.within c.items_before-before.ensures
+
+pub execute-requires-then-before-items : goal.execute-requires-then-before-items
+execute-requires-then-before-items t c = (
+  search (rules, folds.the_lemmas, folds2.the_lemmas),
+  (
+    rw length-set (item_within _ _ _ _ _ _ _ c.in-Choice.is c.as_slice-items.ensures _ _ _ c.index-items-before.result c.requires.within c.if-before-items.true),
+    (c.requires.next, c.requires.scratch),
+  ),
+)
+
+pub execute-requires-else-before-items : goal.execute-requires-else-before-items
+execute-requires-else-before-items t c = (
+  search (rules, folds.the_lemmas, folds2.the_lemmas),
+  (
+    rw (c.get-else-before-items.ensures, length-set) (choice_within _ _ _ _ _ _ _ c.in-Choice.is c.as_slice-items.ensures _ _ c.requires.within).3,
+    (c.requires.next, c.requires.scratch),
+  ),
+)
+
+pub returns-then-before-items-clause-values : goal.returns-then-before-items-clause-values
+returns-then-before-items-clause-values t c =
+    c.execute-then-before-items.ensures.values
+    ∙ sym (ap (λ (e : Effect). e.values) (item_taken _ _ _ _ _ _ _ c.in-Choice.is c.as_slice-items.ensures c.args.values.now _ c.index-items-before.result c.items_before-before.ensures c.if-before-items.true))
+
+pub returns-then-before-items-clause-next : goal.returns-then-before-items-clause-next
+returns-then-before-items-clause-next t c =
+    c.execute-then-before-items.ensures.next
+    ∙ sym (ap (λ (e : Effect). perform e.updates c.args.next.now) (item_taken _ _ _ _ _ _ _ c.in-Choice.is c.as_slice-items.ensures c.args.values.now _ c.index-items-before.result c.items_before-before.ensures c.if-before-items.true))
+
+pub returns-then-before-items-clause-marks : goal.returns-then-before-items-clause-marks
+returns-then-before-items-clause-marks t c =
+    c.execute-then-before-items.ensures.marks
+    ∙ sym (ap (λ (e : Effect). flagged e.marks c.args.marks.now) (item_taken _ _ _ _ _ _ _ c.in-Choice.is c.as_slice-items.ensures c.args.values.now _ c.index-items-before.result c.items_before-before.ensures c.if-before-items.true))
+
+pub returns-else-before-items-clause-values : goal.returns-else-before-items-clause-values
+returns-else-before-items-clause-values t c =
+    c.execute-else-before-items.ensures.values ∙ ap (λ (s : Stmt). (exec s c.args.values.now).values) c.get-else-before-items.ensures
+    ∙ sym (ap (λ (e : Effect). e.values) (default_taken _ _ _ _ _ _ _ c.in-Choice.is c.as_slice-items.ensures c.args.values.now _ c.items_before-before.ensures c.if-before-items.false))
+
+pub returns-else-before-items-clause-next : goal.returns-else-before-items-clause-next
+returns-else-before-items-clause-next t c =
+    c.execute-else-before-items.ensures.next ∙ ap (λ (s : Stmt). perform (exec s c.args.values.now).updates c.args.next.now) c.get-else-before-items.ensures
+    ∙ sym (ap (λ (e : Effect). perform e.updates c.args.next.now) (default_taken _ _ _ _ _ _ _ c.in-Choice.is c.as_slice-items.ensures c.args.values.now _ c.items_before-before.ensures c.if-before-items.false))
+
+pub returns-else-before-items-clause-marks : goal.returns-else-before-items-clause-marks
+returns-else-before-items-clause-marks t c =
+    c.execute-else-before-items.ensures.marks ∙ ap (λ (s : Stmt). flagged (exec s c.args.values.now).marks (set c.args.marks.now (c.in-Choice.site + c.items_before-before.result) true)) c.get-else-before-items.ensures
+    ∙ sym (ap (λ (e : Effect). flagged e.marks c.args.marks.now) (default_taken _ _ _ _ _ _ _ c.in-Choice.is c.as_slice-items.ensures c.args.values.now _ c.items_before-before.ensures c.if-before-items.false))

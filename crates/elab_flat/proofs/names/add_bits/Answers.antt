@@ -2,7 +2,7 @@ use Rattle.std.proofs.Common.{◌++◌, arith}
 use Rattle.bit_exprs.specs.Values.{listed}
 use Rattle.expr_elab.specs.Vectors.{vector_width}
 use Rattle.expr_elab.proofs.Listing.{listed_more}
-use Rattle.elab_flat.specs.Nets.{info_of}
+use Rattle.elab_flat.specs.Bits.{info_of}
 use Rattle.elab_flat.proofs.names.add_bits.Goals as goal
 
 pub loop-place-preserved : goal.loop-place-preserved

@@ -1,7 +1,7 @@
 use Rattle.std.proofs.Common.{◌≡◌, ◌-◌, ◌++◌}
 use Rattle.bit_exprs.specs.Values.{listed}
 use Rattle.expr_elab.specs.Vectors.{vector_width}
-use Rattle.elab_flat.specs.Nets.{info_of}
+use Rattle.elab_flat.specs.Bits.{info_of}
 use Rattle.elab_flat.proofs.names.add_bits.Given as goal
 
 abbrev pub invariant-loop-place : goal.invariant-loop-place

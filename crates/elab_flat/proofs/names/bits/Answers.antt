@@ -1,7 +1,7 @@
 use Rattle.bit_exprs.specs.Values.{listed}
 use Rattle.expr_elab.specs.Vectors.{vector_width}
-use Rattle.elab_flat.specs.declared.nets.Net.{Net}
-use Rattle.elab_flat.specs.Nets.{info_of}
+use Rattle.elab_nets.specs.declared.nets.Net.{Net}
+use Rattle.elab_flat.specs.Bits.{info_of}
 use Rattle.elab_flat.proofs.Listed.{each_more, each_done}
 use Rattle.elab_flat.proofs.names.bits.Goals as goal
 

@@ -1,7 +1,7 @@
 use Rattle.std.proofs.Common.{cond, []}
 use Rattle.expr_elab.specs.Vectors.{bits_of}
-use Rattle.elab_flat.specs.declared.nets.Net.{Net}
-use Rattle.elab_flat.specs.Nets.{is_data_input}
+use Rattle.elab_nets.specs.declared.nets.Net.{Net}
+use Rattle.elab_flat.specs.Bits.{is_data_input}
 use Rattle.elab_flat.proofs.Listed.{each_more, each_done}
 use Rattle.elab_flat.proofs.names.inputs.Goals as goal
 

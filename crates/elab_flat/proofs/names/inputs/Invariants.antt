@@ -1,5 +1,5 @@
 use Rattle.std.proofs.Common.{◌≡◌, take}
-use Rattle.elab_flat.specs.Nets.{bits_where, is_data_input}
+use Rattle.elab_flat.specs.Bits.{bits_where, is_data_input}
 use Rattle.elab_flat.proofs.names.inputs.Given as goal
 
 abbrev pub invariant-loop-net : goal.invariant-loop-net

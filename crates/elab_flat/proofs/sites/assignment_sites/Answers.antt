@@ -1,7 +1,7 @@
 use Rattle.std.proofs.Common.{◌+◌, ◌∙◌, ap, ◌++◌, [], ◌∷◌}
 use Rattle.design_core.specs.declared.flat.SiteKind.TheVariants.{Assignment}
 use Rattle.design_core.specs.declared.flat.Site.{Site}
-use Rattle.elab_flat.specs.Bodies.{sites_from}
+use Rattle.elab_flat.specs.Sites.{sites_from}
 use Rattle.elab_flat.proofs.SiteLists.{sites_more}
 use Rattle.elab_flat.proofs.sites.assignment_sites.Goals as goal
 

@@ -1,5 +1,5 @@
 use Rattle.std.proofs.Common.{◌≡◌, ◌++◌, ◌+◌, ◌-◌}
-use Rattle.elab_flat.specs.Bodies.{sites_from}
+use Rattle.elab_flat.specs.Sites.{sites_from}
 use Rattle.elab_flat.proofs.sites.assignment_sites.Given as goal
 
 abbrev pub invariant-loop-k : goal.invariant-loop-k

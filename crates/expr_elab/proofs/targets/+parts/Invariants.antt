@@ -6,4 +6,4 @@ use Rattle.expr_elab.proofs.Parts.{Onto}
 use Rattle.expr_elab.proofs.targets.+parts.Given as goal
 
 abbrev pub invariant-loop-one : goal.invariant-loop-one
-invariant-loop-one l = Onto (parts_of l.scope) l.behind (drop l.one-index l.one-items) ≡ option_map (flat_map (λ ps. ps)) (all_there (map (parts_of l.scope) l.one-items))
+invariant-loop-one l = Onto (parts_of l.scope l.variable) l.behind (drop l.one-index l.one-items) ≡ option_map (flat_map (λ ps. ps)) (all_there (map (parts_of l.scope l.variable) l.one-items))

@@ -5,9 +5,9 @@ use Rattle.plain_blast.proofs.bodies.choose.Given as goal
 
 abbrev pub invariant-loop-k : goal.invariant-loop-k
 invariant-loop-k l = record {
-  rest : choose_at l.aig l.c (drop l.k l.saved.bits.items) (drop l.k l.saved.literals.items) l.targets ≡ choose_at l.fn.aig l.c l.saved.bits.items l.saved.literals.items l.fn.targets;
+  rest : choose_at l.aig l.c (drop l.k l.bits) (drop l.k l.given) l.targets ≡ choose_at l.fn.aig l.c l.bits l.given l.fn.targets;
   c_exists : IsLiteral l.aig l.c;
-  given_exist : All (IsLiteral l.aig) l.saved.literals.items;
+  given_exist : All (IsLiteral l.aig) l.given;
   exist : All (IsLiteral l.aig) l.targets;
   long : length l.targets ≡ length l.fn.targets;
   kept : Extends l.fn.aig l.aig;

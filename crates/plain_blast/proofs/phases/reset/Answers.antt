@@ -1,4 +1,5 @@
-use Rattle.std.proofs.Common.{ap, ◌∙◌, true}
+use Rattle.std.proofs.Common.{◌∙◌, true, All, subst, sym}
+use Rattle.aig_core.specs.Graph.{IsLiteral}
 use Rattle.plain_blast.specs.Plain.{run_of, wiring}
 use Rattle.plain_blast.specs.Choice.{choose_at}
 use Rattle.plain_blast.proofs.Existing.{all_kept}
@@ -13,9 +14,11 @@ saved_in-requires c = arm_below _ _ _ _ _ _ _ _ c.in-Branch.is c.requires.within
 pub run-requires-clause-within : goal.run-requires-clause-within
 run-requires-clause-within c = rw c.get-2.ensures (branch_within _ _ _ _ _ _ _ c.in-Branch.is c.requires.within).2
 
-pub choose-requires-clause-saved_exist : goal.choose-requires-clause-saved_exist
-choose-requires-clause-saved_exist c =
-    picked_all c.run.new.aig c.run.new.targets c.in_ok-before.before.bits.items _ c.in_ok-run.ensures.exist.targets_exist (rw c.run.ensures.long c.in_ok-before.ensures.within) c.in_ok-constants.ensures.literals
+pub choose-requires-clause-given_exist : goal.choose-requires-clause-given_exist
+choose-requires-clause-given_exist c =
+    subst (All (IsLiteral c.run.new.aig)) (sym c.deref-2.ensures.value)
+    (picked_all c.run.new.aig c.run.new.targets c.in_ok-before.before.bits.items c.in_ok-constants.constants.literals.items c.in_ok-run.ensures.exist.targets_exist
+    (rw c.run.ensures.long c.in_ok-before.ensures.within) c.in_ok-constants.ensures.literals)
 
 pub choose-requires-clause-targets_exist : goal.choose-requires-clause-targets_exist
 choose-requires-clause-targets_exist c =
@@ -33,6 +36,7 @@ returns-clause-exact c =
       kept = c.in_ok-constants.ensures.literals;
       put = c.in_ok-constants.ensures.targets;
       active = c.active.ensures;
-      chosen = c.in_ok-choose.ensures.exact ∙ ap (λ bits. choose_at c.run.new.aig c.active.result bits c.in_ok-constants.constants.literals.items c.exchanged.new.targets) c.in_ok-constants.ensures.bits;
+      chosen = c.in_ok-choose.ensures.exact
+          ∙ (λ j. choose_at c.run.new.aig c.active.result ((c.deref.ensures.value ∙ c.in_ok-constants.ensures.bits) j) (c.deref-2.ensures.value j) c.exchanged.new.targets);
     }
     c.args.body.now c.in-Branch.site c.in-Branch.cond c.in-Branch.no c.in-Branch.is

@@ -18,7 +18,7 @@ returns c =
     let d = c.in_ok-legal.legal.design in
     let same = c.design.ensures.design in
     let few = subst (λ (x : Design). length (points_of x setup) ≤ 200000) same c.in_ok-points.ensures.1 in
-    (tree, c.in_ok-tree.ensures, elaborated tree setup d c.in_ok-legal.ensures.0 few, c.in_ok-points.ensures.0 ∙ ap (λ (x : Design). points_of x setup) same)
+    (tree, c.in_ok-tree.ensures, elaborated tree setup c.in_ok-legal.legal c.in_ok-legal.ensures.0 few, c.in_ok-points.ensures.0 ∙ ap (λ (x : Design). points_of x setup) same)
 
 pub returns-in_err-points : goal.returns-in_err-points
 returns-in_err-points c =
@@ -27,4 +27,4 @@ returns-in_err-points c =
     let e = c.in_err-points.field-0.0 in
     let p = err_from_is_err_and c.from_residual-in_err-points.result c.from_residual-in_err-points.ensures.1 in
     let k = subst (λ (x : Design). ListsPoints x setup (Err e)) c.design.ensures.design c.in_err-points.ensures in
-    rw (p.1, p.2) (front_unlisted c.args.text.now setup c.in_ok-tree.tree d c.in_ok-tree.ensures c.in_ok-legal.ensures.0 e k)
+    rw (p.1, p.2) (front_unlisted c.args.text.now setup c.in_ok-tree.tree c.in_ok-legal.legal c.in_ok-tree.ensures c.in_ok-legal.ensures.0 e k)

@@ -2,12 +2,18 @@ use Rattle.std.proofs.Common.{◌∙◌, rules, arith}
 use Rattle.std.proofs.lemmas.Grind.{common_steps}
 use Rattle.parsing.specs.Reading.{scans}
 use Rattle.parsing.proofs.Counting.{counts_up}
-use Rattle.vlog_rules.specs.Grammar.{always, items}
-use Rattle.vlog_modules.specs.Reading.{more_items}
+use Rattle.vlog_rules.specs.Grammar.{items, one_item, nets, integers, assigns, always}
+use Rattle.vlog_modules.specs.Reading.{further}
 use Rattle.vlog_modules.proofs.items.items.Goals as goal
 
 pub loop-turn-preserved : goal.loop-turn-preserved
-unfolding scans items always
+unfolding scans items one_item nets integers assigns always
 loop-turn-preserved c =
-    let e = c.loop-turn.invariant ∙ (counts_up (λ n. more_items n c.loop-turn.found c.loop-turn.cursor) c.loop-turn._turn _).step c.loop-turn-test.true in
+    let e = c.loop-turn.invariant ∙ (counts_up (λ n. further one_item n c.loop-turn.found c.loop-turn.cursor) c.loop-turn._turn _).step c.loop-turn-test.true in
+    first_of (search rules, grind (arith, common_steps))
+
+pub returns-in_err-next : goal.returns-in_err-next
+unfolding scans items one_item nets integers assigns always
+returns-in_err-next c =
+    let e = c.loop-turn.invariant ∙ (counts_up (λ n. further one_item n c.loop-turn.found c.loop-turn.cursor) c.loop-turn._turn _).step c.loop-turn-test.true in
     first_of (search rules, grind (arith, common_steps))

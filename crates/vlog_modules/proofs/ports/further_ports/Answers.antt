@@ -3,11 +3,11 @@ use Rattle.std.proofs.lemmas.Grind.{common_steps}
 use Rattle.parsing.specs.Reading.{scans}
 use Rattle.parsing.proofs.Counting.{counts_up}
 use Rattle.vlog_rules.specs.Grammar.{comma_port}
-use Rattle.vlog_modules.specs.Reading.{more_ports}
+use Rattle.vlog_modules.specs.Reading.{further}
 use Rattle.vlog_modules.proofs.ports.further_ports.Goals as goal
 
 pub loop-turn-preserved : goal.loop-turn-preserved
 unfolding scans comma_port
 loop-turn-preserved c =
-    let e = c.loop-turn.invariant ∙ (counts_up (λ n. more_ports n c.loop-turn.found c.loop-turn.cursor) c.loop-turn._turn _).step c.loop-turn-test.true in
+    let e = c.loop-turn.invariant ∙ (counts_up (λ n. further comma_port n c.loop-turn.found c.loop-turn.cursor) c.loop-turn._turn _).step c.loop-turn-test.true in
     first_of (search rules, grind (arith, common_steps))

@@ -1,5 +1,6 @@
 use Rattle.std.proofs.Common.{◌≡◌, ◌≤◌, ◌+◌, ◌*◌, ◌-◌, length}
-use Rattle.vlog_modules.specs.Reading.{targets_at}
+use Rattle.vlog_rules.specs.Grammar.{comma_target}
+use Rattle.vlog_modules.specs.Reading.{more_at}
 use Rattle.vlog_modules.proofs.targets.+target.Given as goal
 
 -- Each function calls those further down at the same level, and `target` at the next.
@@ -24,5 +25,5 @@ decreases-comma_target l = 16 * l.below + 2
 abbrev pub invariant-commas-loop-turn : goal.invariant-commas-loop-turn
 invariant-commas-loop-turn l = record {
   tallest : l.found.height ≤ l.below;
-  same : targets_at l.below (length l.fn.cursor) l.fn.found l.fn.cursor ≡ targets_at l.below (l._turn-end - l._turn) l.found l.cursor;
+  same : more_at comma_target l.below (length l.fn.cursor) l.fn.found l.fn.cursor ≡ more_at comma_target l.below (l._turn-end - l._turn) l.found l.cursor;
 }

@@ -1,27 +1,26 @@
-use Rattle.std.proofs.Common.{◌<◌, ◌≤◌, length, map, arith}
-use Rattle.std.proofs.lemmas.List.{take_all, length-map}
-use Rattle.cnf_core.specs.Literal.{negated}
+use Rattle.std.proofs.Common.{◌≤◌, ap, ◌∙◌}
+use Rattle.std.specs.Prelude.{All}
+use Rattle.std.proofs.lemmas.List.Elements.{All-take}
+use Rattle.sat_core.specs.Assigned.{Assigned}
+use Rattle.sat_core.proofs.Sleepings.{negated-within}
 use Rattle.sat_core.proofs.search.Search.begin.Goals as goal
 
-pub returns-clause-begun : goal.returns-clause-begun
-returns-clause-begun c =
-    let long = length-map c.args.assumptions.now negated in
-    let all : length (map negated c.args.assumptions.now) ≤ length c.args.assumptions.now = omega arith in
-    record {
-      good = c.in_ok-assume.ensures.good c.forget_learnt.new.clauses;
-      long = rw c.in_ok-assume.ensures.assumed (omega arith);
-      settled = λ d low h e.
-          let inside : d < length (map negated c.args.assumptions.now) = rw c.in_ok-assume.ensures.assumed at h in
-          absurd (omega arith);
-      assumed = rw c.in_ok-assume.ensures.assumed (take_all (length c.args.assumptions.now) (map negated c.args.assumptions.now) all);
-      known = rw c.clear.ensures.pairs (omega arith);
-      listed = rw c.clear.ensures.pairs (λ k lt. absurd (omega (arith, lt)));
-      within = omega arith;
-      watched = rw c.clear.ensures.pairs (λ k lt. absurd (omega (arith, lt)));
-      kept = λ d low h e.
-          let inside : d < length (map negated c.args.assumptions.now) = rw c.in_ok-assume.ensures.assumed at h in
-          absurd (omega arith);
-      waiting = λ d low h e.
-          let inside : d < length (map negated c.args.assumptions.now) = rw c.in_ok-assume.ensures.assumed at h in
-          absurd (omega arith);
-    }
+pub mark-requires : goal.mark-requires
+mark-requires c =
+    rw
+    (c.as_slice.ensures, c.in_ok-negations.ensures, c.clear.ensures, c.args.self.now.assumed_vars)
+    (negated-within c.args.self.now.trail.vars c.args.assumptions.now c.requires.0)
+
+pub invariant_of-self-2-clause-assumed_vars : goal.invariant_of-self-2-clause-assumed_vars
+invariant_of-self-2-clause-assumed_vars c =
+    c.mark.ensures.vars ∙ ap (λ (a : Assigned). a.vars) c.clear.ensures ∙ c.args.self.now.assumed_vars
+
+pub invariant_of-self-2-clause-good_vars : goal.invariant_of-self-2-clause-good_vars
+invariant_of-self-2-clause-good_vars c =
+    rw c.forget_learnt.ensures (All-take (λ d. All (λ l. l.variable ≤ c.args.self.now.trail.vars) d) c.args.self.now.added c.args.self.now.clauses c.args.self.now.good_vars)
+
+pub invariant_of-self-2-clause-pool_vars : goal.invariant_of-self-2-clause-pool_vars
+invariant_of-self-2-clause-pool_vars c =
+    c.in_ok-self.ensures.vars
+    c.args.self.now.trail.vars
+    (rw c.forget_learnt.ensures (All-take (λ d. All (λ l. l.variable ≤ c.args.self.now.trail.vars) d) c.args.self.now.added c.args.self.now.clauses c.args.self.now.good_vars))

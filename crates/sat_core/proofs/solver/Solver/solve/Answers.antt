@@ -1,10 +1,12 @@
-use Rattle.std.proofs.Common.{[], ◌∷◌, ◌++◌, length, map, sym, ◌∙◌, ap, arith}
+use Rattle.std.proofs.Common.{◌≡◌, ◌+◌, ◌*◌, ◌-◌, ◌<◌, Bool, inl, inr, [], ◌∷◌, ◌++◌, length, map, sym, ◌∙◌, ap, arith}
 use Rattle.std.proofs.lemmas.List.{length_push}
+use Rattle.std.proofs.lemmas.List.Sums.{count_by-le-length}
 use Rattle.cnf_core.specs.Literal.{negated}
 use Rattle.sat_core.specs.Closing.{IsShown}
-use Rattle.sat_core.specs.Search.{added_in, vars_in, Searched, Learns, Ends, IsStep}
+use Rattle.sat_core.specs.Search.{added_in, vars_in, room_in, asleep_in, Searched, Learns, Ends, IsStep}
 use Rattle.sat_core.proofs.Calls.{Tells-lead, Tells-grown, NewLines-lead, Lead-grown, CoreLines-grown, Follow-more, Follow-drop, IsFresh-start, IsFresh-learn}
 use Rattle.sat_core.proofs.Cores.{IsCore-shown}
+use Rattle.sat_core.proofs.Measures.{falls-by, falls-both}
 use Rattle.sat_core.proofs.Models.{IsModel-values}
 use Rattle.sat_core.proofs.Shows.{true-shown}
 use Rattle.sat_core.proofs.solver.Solver.solve.Goals as goal
@@ -31,17 +33,16 @@ returns-in-Satisfied-clause-answer g c =
           (sym (c.step.ensures.added ∙ c.loop-values.invariant.added), sym (c.step.ensures.vars ∙ c.loop-values.invariant.vars))
           (IsModel-values
           (vars_in c.step.new.self)
-          c.step.new.self.added
-          c.step.new.self.clauses
+          (added_in c.step.new.self)
           c.args.assumptions.now
           c.step.new.self.trail.falses
           c.in_ok-values-in-Satisfied.values
-          searched.good.good_vars
-          searched.good.positive
+          searched.searched.good.good_vars
+          searched.searched.good.positive
           c.in_ok-values-in-Satisfied.ensures.long
           c.in_ok-values-in-Satisfied.ensures.values
           all.1
-          searched.assumed),
+          searched.searched.assumed),
       c.loop-values.invariant.below,
     )
 
@@ -268,3 +269,57 @@ returns-in_err-begin-clause-lines g c =
     (g.P.ProofSink.state c.args.self.now.sink).told
     (g.P.ProofSink.state c.args.self.now.sink).told
     (Tells-lead (vars_in c.args.self.now.search) (added_in c.args.self.now.search) (g.P.ProofSink.state c.args.self.now.sink).told)
+
+pub returns-in-Refuted-clause-follow : goal.returns-in-Refuted-clause-follow
+returns-in-Refuted-clause-follow g c =
+    let ends : Ends c.args.assumptions.now c.loop-values.self.search c.step.new.self c.in-Refuted.id c.in-Refuted.shown = rw c.in-Refuted.is at c.in_ok-step.ensures.step in
+    Follow-drop (added_in c.args.self.now.search) c.step.new.self.clauses c.step.new.self.added (rw ends.clauses c.loop-values.invariant.follow)
+
+pub loop-values-smaller-in-Woken : goal.loop-values-smaller-in-Woken
+loop-values-smaller-in-Woken g c =
+    let step : IsStep c.args.assumptions.now c.loop-values.self.search c.step.new.self c.in_ok-step.field-0 = c.in_ok-step.ensures.step in
+    let vars : vars_in c.step.new.self ≡ vars_in c.args.self.now.search = c.step.ensures.vars ∙ c.loop-values.invariant.vars in
+    let size = 2 * vars_in c.args.self.now.search + 3 in
+    let low : room_in c.step.new.self < 2 * vars_in c.args.self.now.search + 3 = omega (arith, vars) in
+    elim c.in-Woken.is [
+      | inl e ↦ (
+          let woken = rw e at step in
+          let falls = falls-by (asleep_in c.step.new.self) (asleep_in c.loop-values.self.search) size (room_in c.step.new.self) (room_in c.loop-values.self.search) woken.1 low in
+          omega (arith, falls)
+          )
+      | inr e ↦ (
+          let decided = rw e at step in
+          let same : asleep_in c.step.new.self * size ≡ asleep_in c.loop-values.self.search * size = ap (λ n. n * size) decided.1 in
+          omega (arith, same, decided.2)
+          )
+    ]
+
+pub loop-values-smaller : goal.loop-values-smaller
+loop-values-smaller g c =
+    let learns : Learns c.args.assumptions.now c.loop-values.self.search c.step.new.self c.in-Learnt.id c.in-Learnt.shown = rw c.in-Learnt.is at c.in_ok-step.ensures.step in
+    let searched : Searched c.args.assumptions.now c.step.new.self = c.in_ok-step.ensures.searched in
+    let vars : vars_in c.step.new.self ≡ vars_in c.args.self.now.search = c.step.ensures.vars ∙ c.loop-values.invariant.vars in
+    let low : room_in c.step.new.self < 2 * vars_in c.args.self.now.search + 3 = omega (arith, vars) in
+    let many : length c.step.new.self.clauses ≡ length c.loop-values.self.search.clauses + 1 =
+    ap length learns.clauses ∙ length_push c.loop-values.self.search.clauses c.in-Learnt.shown.lits.items in
+    let asleep : asleep_in c.step.new.self < length (added_in c.args.self.now.search) + c.args.limit =
+    omega (
+      arith,
+      count_by-le-length (λ (b : Bool). b) c.step.new.self.sleepers.marks,
+      searched.marked.long,
+      many,
+      c.loop-values.invariant.count,
+      c.loop-values.invariant.below,
+      c.if-conflicts-limit.false,
+    ) in
+    falls-both
+    (c.args.limit - (c.loop-values.conflicts + 1))
+    (c.args.limit - c.loop-values.conflicts)
+    (2 * vars_in c.args.self.now.search + 3)
+    (length (added_in c.args.self.now.search) + c.args.limit)
+    (asleep_in c.step.new.self)
+    (room_in c.step.new.self)
+    (asleep_in c.loop-values.self.search * (2 * vars_in c.args.self.now.search + 3) + room_in c.loop-values.self.search)
+    (omega (arith, c.loop-values.invariant.below))
+    asleep
+    low

@@ -1,0 +1,12 @@
+pub mod Inverses
+pub mod Orders
+pub mod Rows
+pub mod LoopValues
+pub mod BodyForms
+pub mod StatementForms
+pub mod Shared
+pub mod Made
+pub mod Ranges
+pub mod FineBodies
+pub mod EveryBody
+pub mod Driven

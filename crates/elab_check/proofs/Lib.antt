@@ -1,0 +1,16 @@
+pub mod Adding
+pub mod Assigning
+pub mod Finding
+pub mod First
+pub mod Kept
+pub mod Marking
+pub mod Noding
+pub mod Once
+pub mod Owning
+pub mod Ranges
+pub mod Reading
+pub mod Resetting
+pub mod Sourcing
+pub mod Tables
+pub mod Targets
+pub mod Walking

@@ -1,0 +1,7 @@
+use Rattle.std.proofs.Common.{ℕ, ◌<◌, get_or}
+use Rattle.design_core.specs.declared.flat.Process.{Process}
+use Rattle.elab_check.specs.Rules.{ListsNeed}
+use Rattle.elab_check.proofs.bodies.judge_lists.Given as goal
+
+abbrev pub invariant-loop-process : goal.invariant-loop-process
+invariant-loop-process l = (k : ℕ) (d : Process) → k < l.process-index → (b : ℕ) → ListsNeed (get_or l.process-items k d) b

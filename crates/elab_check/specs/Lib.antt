@@ -1,0 +1,12 @@
+pub mod Adding
+pub mod Breaks
+pub mod Kept
+pub mod Laws
+pub mod Loops
+pub mod Marking
+pub mod Mentions
+pub mod Noding
+pub mod Owners
+pub mod Refusals
+pub mod Rules
+pub mod Scanning

@@ -1,6 +1,0 @@
-use Rattle.std.proofs.Common.{◌≡◌, take}
-use Rattle.elab_flat.specs.Nets.{bits_where, is_register}
-use Rattle.elab_flat.proofs.names.registers.Given as goal
-
-abbrev pub invariant-loop-net : goal.invariant-loop-net
-invariant-loop-net l = l.bits ≡ bits_where is_register (take l.net-index l.nets)

@@ -1,6 +1,0 @@
-use Rattle.std.proofs.Common.{refl}
-use Rattle.elab_flat.proofs.Ports.{range_is}
-use Rattle.elab_flat.proofs.nets.range_between.Goals as goal
-
-pub returns-then-right-left : goal.returns-then-right-left
-returns-then-right-left c = range_is _ c.args.left c.args.right refl refl

@@ -1,8 +1,0 @@
-use Rattle.std.proofs.Common.{◌≡◌, ◌+◌, ◌*◌, length, take}
-use Rattle.std.specs.List.{sum_by}
-use Rattle.bit_exprs.specs.Cost.{capped}
-use Rattle.plain_blast.specs.Cost.{process_cost}
-use Rattle.plain_blast.proofs.costs.cost.Given as goal
-
-abbrev pub invariant-loop-process : goal.invariant-loop-process
-invariant-loop-process l = l.total ≡ capped (3 * length l.design.inputs + sum_by process_cost (take l.process-index l.process-items))
